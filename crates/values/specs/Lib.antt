@@ -1,0 +1,5 @@
+pub mod Sides
+pub mod Nbbos
+pub mod References
+pub mod Orders
+pub mod Refusals
