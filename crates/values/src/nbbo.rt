@@ -16,7 +16,10 @@ impl Nbbo {
     pub fn absent() -> Nbbo
         ensures { λ r. ⌜ r ≡ absent ⌝ }
     {
-        Nbbo { bid: None, offer: None }
+        Nbbo {
+            bid: None,
+            offer: None,
+        }
     }
 
     // The best price on the side itself: the bid for a buy, the offer for a sell.

@@ -27,6 +27,7 @@ pub enum Condition {
 
 // The lowest and the highest price or strike, in cents.
 pub const LOWEST_PRICE: Price = 1;
+
 pub const HIGHEST_PRICE: Price = 10_000_000;
 
 impl OrderPrice {

@@ -35,8 +35,10 @@ impl Reference {
         ensures { λ _. ⌜ now (self .exit) ≡ after event (now (self .entry)) ⌝ }
     {
         match (*self, event) {
-            (Reference::Absent | Reference::Close(_), Event::Close(price)) => *self = Reference::Close(price),
-            (Reference::Absent | Reference::Close(_), Event::Open(price)) => *self = Reference::Sale(price),
+            (Reference::Absent | Reference::Close(_), Event::Close(price)) => *self =
+                Reference::Close(price),
+            (Reference::Absent | Reference::Close(_), Event::Open(price)) => *self =
+                Reference::Sale(price),
             (Reference::Sale(_), Event::Last(price)) => *self = Reference::Sale(price),
             (Reference::Sale(price), Event::Halt) => *self = Reference::Halted(price),
             (Reference::Halted(price), Event::Resume) => *self = Reference::Sale(price),
