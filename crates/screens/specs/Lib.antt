@@ -3,8 +3,3 @@ pub mod Screens
 pub mod Checks
 pub mod Piles
 pub mod Rules
-pub mod Sources
-pub mod Collars
-pub mod Updates
-pub mod Pricings
-pub mod Edges

@@ -5,12 +5,17 @@ ghost use Prim.Native.Nat.{_*_};
 ghost use lib.Dec.{leb};
 ghost use Rattle.screens.specs.Checks.{limitOrderFilter, orderPriceCheck, quoteNbboCheck, quoteBenchmarkCheck, margin, aboveValue, intrinsicValue, oneSide, wholeClass};
 ghost use Rattle.screens.specs.Views.{refusedIf};
-use crate::screen::{QuoteScreen, Screen};
-use crate::view::{Extent, Ruling, Verdict, View};
+use crate::screen::QuoteScreen;
+use crate::screen::Screen;
+use crate::view::Extent;
+use crate::view::Ruling;
+use crate::view::Verdict;
+use crate::view::View;
 use values::order::Kind;
 use values::reference::Reference;
 use values::refusal::Cause;
-use values::side::{Price, Side};
+use values::side::Price;
+use values::side::Side;
 
 // Products are taken in 64 bits, where no price is too large: the checks answer for every price, in range or not.
 
@@ -31,7 +36,11 @@ fn at_most(price: Price, percent: u32, of: Price) -> bool
 fn refused_if(cause: Cause, test: bool) -> Verdict
     ensures { λ r. ⌜ r ≡ refusedIf cause test ⌝ }
 {
-    if test { Verdict::Refused(cause) } else { Verdict::Pass }
+    if test {
+        Verdict::Refused(cause)
+    } else {
+        Verdict::Pass
+    }
 }
 
 // How many percent through the contra side a limit order may not go.
@@ -49,14 +58,13 @@ pub impl Screen for LimitOrderFilter as LimitOrderFilterScreen {
     ghost meaning = { λ _. limitOrderFilter };
 
     fn ask(&self, view: &View, side: Side, price: Price) -> Verdict {
-        match (side, view.nbbo.contra(side)) {
-            (Side::Buy, Some(offer)) => {
-                refused_if(Cause::Through, at_least(price, 100 + filter_margin(offer), offer))
-            }
-            (Side::Sell, Some(bid)) => {
-                refused_if(Cause::Through, at_most(price, 100 - filter_margin(bid), bid))
-            }
-            (_, None) => Verdict::Pass,
+        let Some(contra) = view.nbbo.contra(side) else {
+            return Verdict::Pass;
+        };
+        let margin = filter_margin(contra);
+        match side {
+            Side::Buy => refused_if(Cause::Through, at_least(price, 100 + margin, contra)),
+            Side::Sell => refused_if(Cause::Through, at_most(price, 100 - margin, contra)),
         }
     }
 }
@@ -91,7 +99,10 @@ pub impl Screen for OrderPriceCheck as OrderPriceCheckScreen {
     fn ask(&self, view: &View, side: Side, price: Price) -> Verdict {
         match (view.reference, side) {
             (Reference::Sale(sale), Side::Buy) => {
-                refused_if(Cause::Benchmark, above_value(view.kind, view.strike, sale, price))
+                refused_if(
+                    Cause::Benchmark,
+                    above_value(view.kind, view.strike, sale, price),
+                )
             }
             (Reference::Sale(sale), Side::Sell) => {
                 let value = intrinsic_value(view.kind, view.strike, sale);
@@ -111,9 +122,15 @@ pub impl Screen for QuoteNbboCheck as QuoteNbboCheckScreen {
 
     fn ask(&self, view: &View, side: Side, price: Price) -> Verdict {
         match (side, view.nbbo.contra(side)) {
-            (Side::Buy, Some(offer)) if offer <= 100 => refused_if(Cause::Through, price >= offer + 100),
+            (Side::Buy, Some(offer)) if offer <= 100 => refused_if(
+                Cause::Through,
+                price >= offer + 100,
+            ),
             (Side::Buy, Some(offer)) => refused_if(Cause::Through, at_least(price, 150, offer)),
-            (Side::Sell, Some(bid)) => refused_if(Cause::Through, bid > 100 && at_most(price, 50, bid)),
+            (Side::Sell, Some(bid)) => refused_if(
+                Cause::Through,
+                bid > 100 && at_most(price, 50, bid),
+            ),
             (_, None) => Verdict::Pass,
         }
     }
@@ -138,9 +155,11 @@ pub impl Screen for QuoteBenchmarkCheck as QuoteBenchmarkCheckScreen {
         match (side, view.kind, view.reference) {
             (Side::Sell, _, _) | (Side::Buy, Kind::Call, Reference::Absent) => Verdict::Pass,
             (Side::Buy, Kind::Put, _) => refused_if(Cause::Benchmark, price >= view.strike),
-            (Side::Buy, Kind::Call, Reference::Close(stock) | Reference::Sale(stock) | Reference::Halted(stock)) => {
-                refused_if(Cause::Benchmark, price >= stock)
-            }
+            (
+                Side::Buy,
+                Kind::Call,
+                Reference::Close(stock) | Reference::Sale(stock) | Reference::Halted(stock),
+            ) => { refused_if(Cause::Benchmark, price >= stock) }
         }
     }
 }

@@ -1,8 +1,12 @@
 // Two screens as one.
 ghost use Rattle.screens.specs.Piles.{piled, piledExtent};
-use crate::screen::{QuoteScreen, Screen};
-use crate::view::{Ruling, Verdict, View};
-use values::side::{Price, Side};
+use crate::screen::QuoteScreen;
+use crate::screen::Screen;
+use crate::view::Ruling;
+use crate::view::Verdict;
+use crate::view::View;
+use values::side::Price;
+use values::side::Side;
 
 // Asks the second screen only where the first passes.
 #[derive(Clone, Copy)]

@@ -2,17 +2,26 @@
 ghost use mathlib.Core.Path.{_≡_};
 ghost use Rattle.screens.specs.Rules.{orderRules, quoteRules, quoteRulesExtent};
 ghost use Rattle.screens.specs.Views.{rulingBy};
-use crate::checks::{LimitOrderFilter, OrderPriceCheck, QuoteBenchmarkCheck, QuoteNbboCheck};
+use crate::checks::LimitOrderFilter;
 use crate::checks::LimitOrderFilterScreen;
+use crate::checks::OrderPriceCheck;
 use crate::checks::OrderPriceCheckScreen;
+use crate::checks::QuoteBenchmarkCheck;
 use crate::checks::QuoteBenchmarkCheckQuoteScreen;
 use crate::checks::QuoteBenchmarkCheckScreen;
+use crate::checks::QuoteNbboCheck;
 use crate::checks::QuoteNbboCheckQuoteScreen;
 use crate::checks::QuoteNbboCheckScreen;
-use crate::pile::{Pile, PileQuoteScreen, PileScreen};
-use crate::screen::{QuoteScreen, Screen};
-use crate::view::{Ruling, Verdict, View};
-use values::side::{Price, Side};
+use crate::pile::Pile;
+use crate::pile::PileQuoteScreen;
+use crate::pile::PileScreen;
+use crate::screen::QuoteScreen;
+use crate::screen::Screen;
+use crate::view::Ruling;
+use crate::view::Verdict;
+use crate::view::View;
+use values::side::Price;
+use values::side::Side;
 
 // The screen of limit orders: the filter, then the price check.
 pub type OrderRules = Pile<LimitOrderFilter, OrderPriceCheck>;
@@ -20,9 +29,15 @@ pub type OrderRules = Pile<LimitOrderFilter, OrderPriceCheck>;
 // The screen of quotes: the NBBO check, then the benchmark check.
 pub type QuoteRules = Pile<QuoteNbboCheck, QuoteBenchmarkCheck>;
 
-pub const ORDER_RULES: OrderRules = Pile { first: LimitOrderFilter, second: OrderPriceCheck };
+pub const ORDER_RULES: OrderRules = Pile {
+    first: LimitOrderFilter,
+    second: OrderPriceCheck,
+};
 
-pub const QUOTE_RULES: QuoteRules = Pile { first: QuoteNbboCheck, second: QuoteBenchmarkCheck };
+pub const QUOTE_RULES: QuoteRules = Pile {
+    first: QuoteNbboCheck,
+    second: QuoteBenchmarkCheck,
+};
 
 // What the rules answer to a limit order.
 pub fn screen_order(view: &View, side: Side, price: Price) -> Verdict

@@ -7,8 +7,11 @@ ghost use Rattle.screens.specs.declared.view.Verdict.{Verdict};
 ghost use Rattle.screens.specs.declared.view.Extent.{Extent};
 ghost use Rattle.screens.specs.Screens.{Lawful};
 ghost use Rattle.screens.specs.Views.{rulingBy};
-use crate::view::{Ruling, Verdict, View};
-use values::side::{Price, Side};
+use crate::view::Ruling;
+use crate::view::Verdict;
+use crate::view::View;
+use values::side::Price;
+use values::side::Side;
 
 // A screen passes or refuses a price on one side of a series, by what it is shown of the series.
 pub trait Screen {

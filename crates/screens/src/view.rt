@@ -1,6 +1,6 @@
 // What a screen is shown, and what it answers.
 ghost use mathlib.Core.Path.{_≡_};
-ghost use Rattle.screens.specs.Views.{number, rulingBy};
+ghost use Rattle.screens.specs.Views.{rulingBy};
 use values::nbbo::Nbbo;
 use values::order::Kind;
 use values::reference::Reference;
@@ -38,16 +38,6 @@ pub enum Ruling {
 }
 
 impl Verdict {
-    // The number by which the answer is reported: the cause's, or 0 for a pass.
-    pub fn number(self) -> u8
-        ensures { λ r. ⌜ r ≡ number self ⌝ }
-    {
-        match self {
-            Verdict::Pass => 0,
-            Verdict::Refused(cause) => cause.number(),
-        }
-    }
-
     // The answer of a quote screen whose refusals reach so far.
     pub fn reaching(self, extent: Extent) -> Ruling
         ensures { λ r. ⌜ r ≡ rulingBy self extent ⌝ }

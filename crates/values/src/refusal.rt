@@ -51,7 +51,7 @@ pub enum Refusal {
 }
 
 impl Cause {
-    pub fn number(self) -> u8
+    fn number(self) -> u8
         ensures { λ r. ⌜ r ≡ causeNumber self ⌝ }
     {
         match self {
@@ -61,7 +61,7 @@ impl Cause {
         }
     }
 
-    pub fn word(self) -> &'static str
+    fn word(self) -> &'static str
         ensures { λ r. ⌜ now r ≡ causeWord self ⌝ }
     {
         match self {

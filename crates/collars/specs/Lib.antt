@@ -1,0 +1,3 @@
+pub mod Collars
+pub mod Updates
+pub mod Pricings
