@@ -28,9 +28,9 @@ abbrev pub Grows : Tail → Text → ℕ → Result Unit Refusal → Tail → Ty
 Grows before says room r after = Cases r (λ _. Grown before says room after) (λ e. (e ≡ Shape) × (says ≡ None))
 
 -- what writing a text at the front of `out` answers: how many bytes it has, where out has room for the longest line
-abbrev pub length-or : Text → List ℕ → Result ℕ Refusal
-length-or None out = Err Shape
-length-or (Some bs) out = cond (leb 80 (length out)) (Ok (length bs)) (Err Rows)
+abbrev pub writing : Text → List ℕ → Result ℕ Refusal
+writing None out = Err Shape
+writing (Some bs) out = cond (leb 80 (length out)) (Ok (length bs)) (Err Rows)
 
 -- and what out holds then: a refusal leaves it as it was
 abbrev pub over : Text → List ℕ → List ℕ

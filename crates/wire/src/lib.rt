@@ -2,5 +2,5 @@
 // It knows nothing of the market: whether a price or a name is in range is not asked here.
 pub mod line;
 pub mod read;
-pub mod tail;
+mod tail;
 pub mod write;

@@ -5,6 +5,7 @@ ghost use lib.ListN.{length};
 use crate::line::LONGEST;
 
 // The last bytes of a line, those from `start` on. A line is made from its last byte to its first, as the digits of a number come.
+#[derive(Drop)]
 pub struct Tail {
     pub bytes: [u8; LONGEST],
     pub start: usize,

@@ -6,7 +6,7 @@ ghost use lib.ListN.{length, drop};
 ghost use Rattle.std.specs.Written.{decimal};
 ghost use Rattle.std.specs.declared.option.Option.the-variants.{Some};
 ghost use Rattle.wire.specs.Format.{written, glued, count, optional, sideText, kindText, conditionText, priceText, eventText, tab, newline};
-ghost use Rattle.wire.specs.Writing.{made, Grown, Grows};
+ghost use Rattle.wire.specs.Writing.{made, Grown, Grows, writing, over};
 use crate::line::LARGEST;
 use crate::line::LONGEST;
 use crate::line::Line;
@@ -278,4 +278,58 @@ impl Tail {
         self.put_letter(b'W', b'\t');
         Ok(())
     }
+
+    fn put_line(&mut self, line: Line) -> Result<(), Refusal>
+        requires { ⌜ now self .start ≡ 80 ⌝ ∗ ⌜ made (now self) ≡ [] ⌝ }
+        ensures { λ r. ⌜ Grows (now (self .entry)) (written line) 80 r (now (self .exit)) ⌝ }
+    {
+        match line {
+            Line::Series {
+                class,
+                kind,
+                strike,
+            } => self.put_series(class, kind, strike),
+            Line::Nbbo { series, bid, offer } => self.put_nbbo(series, bid, offer),
+            Line::Event { class, event } => self.put_tape(class, event),
+            Line::Order {
+                series,
+                side,
+                price,
+                size,
+                condition,
+            } => self.put_order(series, side, price, size, condition),
+            Line::Quote {
+                maker,
+                series,
+                side,
+                price,
+                size,
+            } => self.put_quote(maker, series, side, price, size),
+            Line::Enable { maker, class } => self.put_enable(maker, class),
+            Line::Withdraw { number } => self.put_withdraw(number),
+            Line::Clock { ms } => self.put_clock(ms),
+            Line::Width {
+                series,
+                width,
+                first,
+                second,
+            } => self.put_width(series, width, first, second),
+        }
+    }
+}
+
+// Writes the line at the front of `out`, and says how many bytes it has. A line that cannot be written is refused first, then
+// an `out` with no room for the longest line; a refusal writes nothing.
+pub fn write_line(line: Line, out: &mut [u8]) -> Result<usize, Refusal>
+    ensures answer { λ r. ⌜ r ≡ writing (written line) (now (out .entry)) ⌝ }
+    ensures bytes { λ _. ⌜ now (out .exit) ≡ over (written line) (now (out .entry)) ⌝ }
+{
+    let mut tail = Tail::empty();
+    tail.put_line(line)?;
+    if out.len() < LONGEST {
+        return Err(Refusal::Rows);
+    }
+    let size = LONGEST - tail.start;
+    out[0..size].copy_from_slice(&tail.bytes[tail.start..]);
+    Ok(size)
 }
