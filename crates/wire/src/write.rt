@@ -2,10 +2,12 @@
 ghost use mathlib.Core.Path.{_≡_};
 ghost use mathlib.Core.List.{[], _∷_, _++_};
 ghost use Prim.Native.Nat.{_+_, _≤_, _<_, _^_};
-ghost use lib.ListN.{length, drop};
+ghost use lib.ListN.{length, take};
 ghost use Rattle.std.specs.Written.{decimal};
 ghost use Rattle.std.specs.declared.option.Option.the-variants.{Some};
 ghost use Rattle.wire.specs.Format.{written, glued, count, optional, sideText, kindText, conditionText, priceText, eventText, tab, newline};
+ghost use Rattle.std.specs.Vec.{made as Made};
+ghost use Rattle.wire.specs.RoundTrips.{ReadsBack};
 ghost use Rattle.wire.specs.Writing.{made, Grown, Grows, writing, over};
 use crate::line::LARGEST;
 use crate::line::LONGEST;
@@ -323,6 +325,8 @@ impl Tail {
 pub fn write_line(line: Line, out: &mut [u8]) -> Result<usize, Refusal>
     ensures answer { λ r. ⌜ r ≡ writing (written line) (now (out .entry)) ⌝ }
     ensures bytes { λ _. ⌜ now (out .exit) ≡ over (written line) (now (out .entry)) ⌝ }
+    ensures within { λ r. ⌜ Made r (λ size. size ≤ 80) ⌝ }
+    ensures again { λ r. ⌜ Made r (λ size. ReadsBack line (take size (now (out .exit)))) ⌝ }
 {
     let mut tail = Tail::empty();
     tail.put_line(line)?;

@@ -1,12 +1,13 @@
-use mathlib.Core.Path.{_≡_, ap, _∙_}
+use mathlib.Core.Path.{_≡_, sym, ap, _∙_}
 use mathlib.Core.List.{_++_}
 use Prim.Native.Nat.{_-_}
 use native.Mathlib.Omega.{arith}
-use lib.ListN.{length, drop, length-drop}
+use lib.ListN.{length, take, drop, length-drop}
 use Rattle.std.proofs.shelf.Parts.{between-to-end}
 use Rattle.std.specs.declared.result.Result.the-variants.{Ok}
 use Rattle.wire.specs.Writing.{made}
-use Rattle.wire.proofs.Placing.{no-room-answer, no-room-bytes, room-answer, room-bytes}
+use Rattle.std.proofs.shelf.Lists.{take-at}
+use Rattle.wire.proofs.Placing.{reads-back, no-room-answer, no-room-bytes, room-answer, room-bytes}
 use Rattle.wire.proofs.write.write_line.Needs as need
 
 pub returns-then-out-lt-LONGEST : need.returns-then-out-lt-LONGEST
@@ -15,6 +16,8 @@ returns-then-out-lt-LONGEST c =
     record {
       answer = no-room-answer _ _ (c .args .out .now) is (omega arith);
       bytes = no-room-bytes _ _ (c .args .out .now) is (omega arith);
+      within = tt;
+      again = tt;
     }
 
 pub returns : need.returns
@@ -29,4 +32,6 @@ returns c =
     record {
       answer = ap (λ n. Ok n) long ∙ room-answer _ _ out is (omega arith);
       bytes = ap (λ l. l ++ drop (size - 0) out) copied ∙ ap (λ n. made t ++ drop n out) whole ∙ room-bytes _ _ out is (omega arith);
+      within = omega arith;
+      again = reads-back _ (made t) _ is (ap (take size) (ap (λ l. l ++ drop (size - 0) out) copied) ∙ take-at (made t) _ size (sym long));
     }

@@ -1,0 +1,27 @@
+// Round trips: a line read and written again, and one written and read again.
+ghost use mathlib.Core.Path.{_≡_};
+ghost use Rattle.wire.specs.Format.{written};
+ghost use Rattle.wire.specs.RoundTrips.{Rewrites, Unambiguous, reread};
+use crate::line::LONGEST;
+use crate::line::Line;
+use crate::read::read_line;
+use crate::write::write_line;
+use values::refusal::Refusal;
+
+// Reads the bytes of one whole line, and writes the line at the front of `out`: the same bytes again.
+pub fn rewrite_line(bytes: &[u8], out: &mut [u8]) -> Result<usize, Refusal>
+    ensures same { λ r. ⌜ Rewrites (now (bytes .entry)) (now (out .entry)) r (now (out .exit)) ⌝ }
+    ensures once { λ _. ⌜ Unambiguous (now (bytes .entry)) ⌝ }
+{
+    let line = read_line(bytes)?;
+    write_line(line, out)
+}
+
+// Writes the line, and reads what was written: the same line again.
+pub fn reread_line(line: Line) -> Result<Line, Refusal>
+    ensures { λ r. ⌜ r ≡ reread line (written line) ⌝ }
+{
+    let mut bytes = [0u8; LONGEST];
+    let size = write_line(line, &mut bytes)?;
+    read_line(&bytes[0..size])
+}
