@@ -1,3 +1,4 @@
 pub mod Counts
 pub mod Fronts
 pub mod Placing
+pub mod Newlines

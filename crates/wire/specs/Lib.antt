@@ -2,3 +2,4 @@ pub mod Format
 pub mod Reading
 pub mod Writing
 pub mod RoundTrips
+pub mod Splitting

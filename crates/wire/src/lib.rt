@@ -3,5 +3,6 @@
 pub mod again;
 pub mod line;
 pub mod read;
+pub mod split;
 mod tail;
 pub mod write;
