@@ -25,8 +25,8 @@ here s i lt past is =
     let e : 0 + i ≡ i = omega arith in
     sym
     (past
-      ∙ ap (mapped (λ k. k + i)) (at-drop-more newlineAt s i 0 lt ∙ cond-true _ _ _ (eq-eqb (getD s i 0) 10 is))
-      ∙ ap (λ n. Some n) e)
+    ∙ ap (mapped (λ k. k + i)) (at-drop-more newlineAt s i 0 lt ∙ cond-true _ _ _ (eq-eqb (getD s i 0) 10 is))
+    ∙ ap (λ n. Some n) e)
 
 pub onward : (s : List ℕ) (i : ℕ) → i < length s → Past s i → (getD s i 0 ≡ 10 → ⊥) → Past s (i + 1)
 onward s i lt past not =

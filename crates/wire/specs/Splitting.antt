@@ -1,15 +1,72 @@
--- Cutting input into lines. A line ends with its newline (10); one of more than 80 bytes is too long.
+-- Cutting input into lines: a line ends with its newline (10), and one of more than 80 bytes is too long.
 use mathlib.Core.Path.{_≡_}
-use mathlib.Core.Bool.{Bool, true, false, cond}
+use mathlib.Core.Bool.{Bool, true, false, cond, _||_}
 use mathlib.Core.List.{List, [], _∷_, _++_}
-use Prim.Native.Nat.{ℕ, suc, _+_, _≤_}
-use lib.Dec.{eqb, leb}
+use Prim.Native.Nat.{ℕ, _+_, _≤_}
+use lib.Dec.{eqb, leb, ltb}
 use lib.ListN.{length, take, drop}
 use Rattle.std.specs.Options.{mapped}
 use Rattle.std.specs.declared.option.Option.{Option}
 use Rattle.std.specs.declared.option.Option.the-variants.{Some, None}
+use Rattle.wire.specs.declared.split.Piece.{Piece}
+use Rattle.wire.specs.declared.split.Piece.the-variants.{Whole, Long, Unended}
 
+-- a line as it is answered: its bytes, to be read; or nothing, where it is broken
+abbrev pub Item : Type 0
+Item = Option (List ℕ)
+
+-- the lines of an input
+-- of a line that its newline ends
+abbrev pub ended : List ℕ → Item
+ended l = cond (leb (length l) 80) (Some l) None
+
+-- at the end of the input: a line without a newline is broken, and nothing after a newline is no line
+abbrev pub unended : List ℕ → List Item
+unended [] = []
+unended (b ∷ l) = None ∷ []
+
+-- the lines of an input, where `begun` has come of the first already
+abbrev pub linesFrom : List ℕ → List ℕ → List Item
+linesFrom begun [] = unended begun
+linesFrom begun (b ∷ s) = cond (eqb b 10) (ended (begun ++ (b ∷ [])) ∷ linesFrom [] s) (linesFrom (begun ++ (b ∷ [])) s)
+
+abbrev pub lines : List ℕ → List Item
+lines input = linesFrom [] input
+
+-- one step over a block of input; `passing` says that a line has begun that is too long already
 -- where the first newline stands
 abbrev pub newlineAt : List ℕ → Option ℕ
 newlineAt [] = None
 newlineAt (b ∷ s) = cond (eqb b 10) (Some 0) (mapped (λ k. k + 1) (newlineAt s))
+
+-- the items that the step answers
+abbrev pub items : Bool → List ℕ → Option ℕ → List Item
+items passing s (Some at) = cond passing None (ended (take (at + 1) s)) ∷ []
+items passing s None = []
+
+-- the bytes that are left, to stand before the input that comes next: a line that is too long is not kept
+abbrev pub left : Bool → List ℕ → Option ℕ → List ℕ
+left passing s (Some at) = drop (at + 1) s
+left passing s None = cond (passing || leb 80 (length s)) [] s
+
+-- whether a line that is too long goes on
+abbrev pub goesOn : Bool → List ℕ → Option ℕ → Bool
+goesOn passing s (Some at) = false
+goesOn passing s None = passing || leb 80 (length s)
+
+-- what a piece answers
+abbrev pub answers : Piece → List Item
+answers (Whole l) = Some (l .now) ∷ []
+answers Long = None ∷ []
+answers Unended = []
+
+-- what may have begun where a step starts
+abbrev pub Begun : Bool → List ℕ → Type 0
+Begun true begun = 80 ≤ length begun
+Begun false begun = begun ≡ []
+
+-- a step answers the first lines of the input, whatever comes later, and leaves the others
+abbrev pub Follows : Bool → List ℕ → List Item → List ℕ → Bool → Type 0
+Follows passing block answered rest after =
+    (begun later : List ℕ) → Begun passing begun
+    → (next : List ℕ) × Begun after next × (linesFrom begun (block ++ later) ≡ answered ++ linesFrom next (rest ++ later))

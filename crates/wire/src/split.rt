@@ -1,11 +1,33 @@
 // Cutting input into lines, a block of bytes at a time.
 ghost use mathlib.Core.Path.{_≡_};
-ghost use Rattle.wire.specs.Splitting.{newlineAt};
+ghost use Prim.Native.Nat.{_<_};
+ghost use lib.ListN.{length};
+ghost use mathlib.Core.Bool.{false, _||_};
+ghost use lib.Dec.{ltb};
+ghost use Rattle.std.specs.Slices.{found};
+ghost use Rattle.wire.specs.Splitting.{newlineAt, items, left, goesOn, answers};
 use crate::line::LONGEST;
+
+// What comes first in a block.
+pub enum Piece<'a> {
+    // A line with its newline, of at most 80 bytes.
+    Whole(&'a [u8]),
+    // The end of a line of more than 80 bytes, which is passed over.
+    Long,
+    // No newline yet.
+    Unended,
+}
+
+// Cuts input into lines. The bytes that it leaves stand before the input that comes next.
+pub struct Splitter {
+    // A line that is too long has begun, and its bytes are passed over up to its newline.
+    pub passing: bool,
+}
 
 // Where the first newline stands.
 fn find_newline(block: &[u8]) -> Option<usize>
-    ensures { λ r. ⌜ r ≡ newlineAt (now (block .entry)) ⌝ }
+    ensures first { λ r. ⌜ r ≡ newlineAt (now (block .entry)) ⌝ }
+    ensures within { λ r. ⌜ found r (λ at. at < length (now (block .entry))) ⌝ }
 {
     for (i, byte) in block.iter().enumerate() {
         if *byte == b'\n' {
@@ -13,4 +35,47 @@ fn find_newline(block: &[u8]) -> Option<usize>
         }
     }
     None
+}
+
+impl Splitter {
+    pub fn new() -> Splitter
+        ensures { λ s. ⌜ s .passing ≡ false ⌝ }
+    {
+        Splitter { passing: false }
+    }
+
+    // Takes the first line off the block, and gives it with what is left. Where none ends there, what is left is what has come of
+    // a line that may still be short enough, under 80 bytes.
+    pub fn next<'a>(&mut self, block: &'a [u8]) -> (Piece<'a>, &'a [u8])
+        ensures answers { λ r. ⌜ answers (r .0) ≡ items (now (self .entry) .passing) (now (block .entry)) (newlineAt (now (block .entry))) ⌝ }
+        ensures left { λ r. ⌜ now (r .1) ≡ left (now (self .entry) .passing) (now (block .entry)) (newlineAt (now (block .entry))) ⌝ }
+        ensures passing { λ _. ⌜ now (self .exit) .passing ≡ goesOn (now (self .entry) .passing) (now (block .entry)) (newlineAt (now (block .entry))) ⌝ }
+    {
+        match find_newline(block) {
+            Some(at) => {
+                let (line, rest) = block.split_at(at + 1);
+                let long = self.passing || line.len() > LONGEST;
+                self.passing = false;
+                (
+                    if long {
+                        Piece::Long
+                    } else {
+                        Piece::Whole(line)
+                    },
+                    rest,
+                )
+            }
+            None => {
+                self.passing = self.passing || block.len() >= LONGEST;
+                (Piece::Unended, if self.passing { &[] } else { block })
+            }
+        }
+    }
+
+    // At the end of the input, where `rest` was left: whether a line is not ended, to be answered once.
+    pub fn unended(&self, rest: &[u8]) -> bool
+        ensures { λ r. ⌜ r ≡ now (self .entry) .passing || ltb 0 (length (now (rest .entry))) ⌝ }
+    {
+        self.passing || rest.len() > 0
+    }
 }
