@@ -1,4 +1,2 @@
-pub mod Counts
-pub mod Fronts
-pub mod Placing
+pub mod Rereads
 pub mod Newlines

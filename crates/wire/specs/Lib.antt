@@ -1,5 +1,1 @@
-pub mod Format
-pub mod Reading
-pub mod Writing
-pub mod RoundTrips
 pub mod Splitting

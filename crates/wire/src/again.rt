@@ -1,12 +1,12 @@
 // Round trips: a line read and written again, and one written and read again.
 ghost use mathlib.Core.Path.{_≡_};
-ghost use Rattle.wire.specs.Format.{written};
-ghost use Rattle.wire.specs.RoundTrips.{Rewrites, Unambiguous, reread};
-use crate::line::LONGEST;
-use crate::line::Line;
-use crate::read::read_line;
-use crate::write::write_line;
+ghost use Rattle.wire_format.specs.Format.{written};
+ghost use Rattle.wire_format.specs.RoundTrips.{Rewrites, Unambiguous, reread};
 use values::refusal::Refusal;
+use wire_format::line::LONGEST;
+use wire_format::line::Line;
+use wire_read::read::read_line;
+use wire_write::write::write_line;
 
 // Reads the bytes of one whole line, and writes the line at the front of `out`: the same bytes again.
 pub fn rewrite_line(bytes: &[u8], out: &mut [u8]) -> Result<usize, Refusal>

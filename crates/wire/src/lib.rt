@@ -1,8 +1,4 @@
-// The line format: nine forms of lines, how their bytes are read and written, and how input is cut into lines.
-// It knows nothing of the market: whether a price or a name is in range is not asked here.
+// The lines of an input: input is cut into lines, and a line is read and written in turn.
+// Nothing here knows of the market: whether a price or a name is in range is not asked.
 pub mod again;
-pub mod line;
-pub mod read;
 pub mod split;
-mod tail;
-pub mod write;

@@ -6,7 +6,7 @@ ghost use mathlib.Core.Bool.{false, _||_};
 ghost use lib.Dec.{ltb};
 ghost use Rattle.std.specs.Slices.{found};
 ghost use Rattle.wire.specs.Splitting.{newlineAt, items, left, goesOn, answers};
-use crate::line::LONGEST;
+use wire_format::line::LONGEST;
 
 // What comes first in a block.
 pub enum Piece<'a> {

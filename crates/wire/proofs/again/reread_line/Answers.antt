@@ -4,9 +4,9 @@ use native.Mathlib.Omega.{arith}
 use borrow.Author.Needs.{needs}
 use lib.ListN.{take}
 use Rattle.std.proofs.shelf.Results.{err-from-errBy}
-use Rattle.wire.specs.Format.{written}
-use Rattle.wire.specs.Reading.{Reads}
-use Rattle.wire.proofs.Placing.{refused-again, taken-again}
+use Rattle.wire_format.specs.Format.{written}
+use Rattle.wire_format.specs.Reading.{Reads}
+use Rattle.wire.proofs.Rereads.{refused-again, taken-again}
 use Rattle.wire.proofs.again.reread_line.Needs as need
 
 pub returns-in-Break-size : need.returns-in-Break-size
