@@ -1,2 +1,3 @@
 pub mod Rereads
 pub mod Newlines
+pub mod Cutting

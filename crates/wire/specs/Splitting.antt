@@ -1,8 +1,8 @@
 -- Cutting input into lines: a line ends with its newline (10), and one of more than 80 bytes is too long.
 use mathlib.Core.Path.{_≡_}
-use mathlib.Core.Bool.{Bool, true, false, cond, _||_}
+use mathlib.Core.Bool.{Bool, false, cond, _||_}
 use mathlib.Core.List.{List, [], _∷_, _++_}
-use Prim.Native.Nat.{ℕ, _+_, _≤_}
+use Prim.Native.Nat.{ℕ, _+_}
 use lib.Dec.{eqb, leb, ltb}
 use lib.ListN.{length, take, drop}
 use Rattle.std.specs.Options.{mapped}
@@ -60,13 +60,33 @@ answers (Whole l) = Some (l .now) ∷ []
 answers Long = None ∷ []
 answers Unended = []
 
--- what may have begun where a step starts
-abbrev pub Begun : Bool → List ℕ → Type 0
-Begun true begun = 80 ≤ length begun
-Begun false begun = begun ≡ []
+-- the end of the input, where s is left
+abbrev pub atEnd : Bool → List ℕ → List Item
+atEnd passing s = cond (passing || ltb 0 (length s)) (None ∷ []) []
 
--- a step answers the first lines of the input, whatever comes later, and leaves the others
-abbrev pub Follows : Bool → List ℕ → List Item → List ℕ → Bool → Type 0
-Follows passing block answered rest after =
-    (begun later : List ℕ) → Begun passing begun
-    → (next : List ℕ) × Begun after next × (linesFrom begun (block ++ later) ≡ answered ++ linesFrom next (rest ++ later))
+-- a run of a splitter: input comes a block at a time, and steps are made in between
+pub data Move : Type 0 where
+  feed : List ℕ → Move
+  step : Move
+
+-- the input of a run
+abbrev pub input : List Move → List ℕ
+input [] = []
+input (feed block ∷ moves) = block ++ input moves
+input (step ∷ moves) = input moves
+
+-- all that a run answers, from a splitter before which s stands, to the end of the input
+abbrev pub answered : List Move → Bool → List ℕ → List Item
+answered [] passing s = atEnd passing s
+answered (feed block ∷ moves) passing s = answered moves passing (s ++ block)
+answered (step ∷ moves) passing s = items passing s (newlineAt s) ++ answered moves (goesOn passing s (newlineAt s)) (left passing s (newlineAt s))
+
+-- the run goes on until no newline is left
+abbrev pub Spent : List Move → Bool → List ℕ → Type 0
+Spent [] passing s = newlineAt s ≡ None
+Spent (feed block ∷ moves) passing s = Spent moves passing (s ++ block)
+Spent (step ∷ moves) passing s = Spent moves (goesOn passing s (newlineAt s)) (left passing s (newlineAt s))
+
+-- however the input comes, its lines are answered, each once and in order
+abbrev pub Answers-the-lines : Bool → Type 0
+Answers-the-lines passing = (moves : List Move) → Spent moves passing [] → answered moves passing [] ≡ lines (input moves)

@@ -5,7 +5,7 @@ ghost use lib.ListN.{length};
 ghost use mathlib.Core.Bool.{false, _||_};
 ghost use lib.Dec.{ltb};
 ghost use Rattle.std.specs.Slices.{found};
-ghost use Rattle.wire.specs.Splitting.{newlineAt, items, left, goesOn, answers};
+ghost use Rattle.wire.specs.Splitting.{newlineAt, items, left, goesOn, answers, Answers-the-lines};
 use wire_format::line::LONGEST;
 
 // What comes first in a block.
@@ -39,7 +39,8 @@ fn find_newline(block: &[u8]) -> Option<usize>
 
 impl Splitter {
     pub fn new() -> Splitter
-        ensures { λ s. ⌜ s .passing ≡ false ⌝ }
+        ensures fresh { λ s. ⌜ s .passing ≡ false ⌝ }
+        ensures lines { λ s. ⌜ Answers-the-lines (s .passing) ⌝ }
     {
         Splitter { passing: false }
     }
