@@ -90,3 +90,7 @@ Spent (step ∷ moves) passing s = Spent moves (goesOn passing s (newlineAt s)) 
 -- however the input comes, its lines are answered, each once and in order
 abbrev pub Answers-the-lines : Bool → Type 0
 Answers-the-lines passing = (moves : List Move) → Spent moves passing [] → answered moves passing [] ≡ lines (input moves)
+
+-- how many bytes are kept of the last `count` before `end`
+abbrev pub kept : List ℕ → ℕ → ℕ → ℕ
+kept buffer end count = cond (leb end (length buffer)) (cond (leb count end) count 0) 0

@@ -1,5 +1,7 @@
 // Round trips: a line read and written again, and one written and read again.
 ghost use mathlib.Core.Path.{_≡_};
+ghost use Prim.Native.Nat.{_≤_};
+ghost use Rattle.std.specs.Vec.{made};
 ghost use Rattle.wire_format.specs.Format.{written};
 ghost use Rattle.wire_format.specs.RoundTrips.{Rewrites, Unambiguous, reread};
 use values::refusal::Refusal;
@@ -11,6 +13,7 @@ use wire_write::write::write_line;
 // Reads the bytes of one whole line, and writes the line at the front of `out`: the same bytes again.
 pub fn rewrite_line(bytes: &[u8], out: &mut [u8]) -> Result<usize, Refusal>
     ensures same { λ r. ⌜ Rewrites (now (bytes .entry)) (now (out .entry)) r (now (out .exit)) ⌝ }
+    ensures within { λ r. ⌜ made r (λ size. size ≤ 80) ⌝ }
     ensures once { λ _. ⌜ Unambiguous (now (bytes .entry)) ⌝ }
 {
     let line = read_line(bytes)?;

@@ -1,11 +1,12 @@
 // Cutting input into lines, a block of bytes at a time.
 ghost use mathlib.Core.Path.{_≡_};
-ghost use Prim.Native.Nat.{_<_};
-ghost use lib.ListN.{length};
+ghost use Prim.Native.Nat.{_<_, _-_};
+ghost use lib.ListN.{length, take, drop};
 ghost use mathlib.Core.Bool.{false, _||_};
+ghost use mathlib.Core.List.{_++_};
 ghost use lib.Dec.{ltb};
 ghost use Rattle.std.specs.Slices.{found};
-ghost use Rattle.wire.specs.Splitting.{newlineAt, items, left, goesOn, answers, Answers-the-lines};
+ghost use Rattle.wire.specs.Splitting.{newlineAt, items, left, goesOn, answers, kept, Answers-the-lines};
 use wire_format::line::LONGEST;
 
 // What comes first in a block.
@@ -79,4 +80,20 @@ impl Splitter {
     {
         self.passing || rest.len() > 0
     }
+}
+
+// Moves the last `count` bytes before `end` to the front of the buffer, so that the input that comes next is read after them, and says
+// how many were moved: none where there are not so many.
+pub fn keep_last(buffer: &mut [u8], end: usize, count: usize) -> usize
+    ensures count { λ r. ⌜ r ≡ kept (now (buffer .entry)) end count ⌝ }
+    ensures bytes { λ r. ⌜ now (buffer .exit) ≡ take r (drop (end - r) (now (buffer .entry))) ++ drop r (now (buffer .entry)) ⌝ }
+{
+    if end > buffer.len() || count > end {
+        return 0;
+    }
+    let start = end - count;
+    for i in 0..count {
+        buffer[i] = buffer[start + i];
+    }
+    count
 }
