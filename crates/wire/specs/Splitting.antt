@@ -2,7 +2,7 @@
 use mathlib.Core.Path.{_≡_}
 use mathlib.Core.Bool.{Bool, false, cond, _||_}
 use mathlib.Core.List.{List, [], _∷_, _++_}
-use Prim.Native.Nat.{ℕ, _+_}
+use Prim.Native.Nat.{ℕ, _+_, _≤_, _<_}
 use lib.Dec.{eqb, leb, ltb}
 use lib.ListN.{length, take, drop}
 use Rattle.std.specs.Options.{mapped}
@@ -59,6 +59,12 @@ abbrev pub answers : Piece → List Item
 answers (Whole l) = Some (l .now) ∷ []
 answers Long = None ∷ []
 answers Unended = []
+
+-- what is left is shorter where a line has ended, and short enough for a line where none has
+abbrev pub Onward : Piece → List ℕ → List ℕ → Type 0
+Onward (Whole l) rest s = length rest < length s
+Onward Long rest s = length rest < length s
+Onward Unended rest s = (length rest ≤ length s) × (length rest < 80)
 
 -- the end of the input, where s is left
 abbrev pub atEnd : Bool → List ℕ → List Item

@@ -6,10 +6,11 @@ ghost use mathlib.Core.Bool.{false, _||_};
 ghost use mathlib.Core.List.{_++_};
 ghost use lib.Dec.{ltb};
 ghost use Rattle.std.specs.Slices.{found};
-ghost use Rattle.wire.specs.Splitting.{newlineAt, items, left, goesOn, answers, kept, Answers-the-lines};
+ghost use Rattle.wire.specs.Splitting.{newlineAt, items, left, goesOn, answers, Onward, kept, Answers-the-lines};
 use wire_format::line::LONGEST;
 
 // What comes first in a block.
+#[derive(Clone, Copy)]
 pub enum Piece<'a> {
     // A line with its newline, of at most 80 bytes.
     Whole(&'a [u8]),
@@ -20,6 +21,7 @@ pub enum Piece<'a> {
 }
 
 // Cuts input into lines. The bytes that it leaves stand before the input that comes next.
+#[derive(Drop)]
 pub struct Splitter {
     // A line that is too long has begun, and its bytes are passed over up to its newline.
     pub passing: bool,
@@ -51,6 +53,7 @@ impl Splitter {
     pub fn next<'a>(&mut self, block: &'a [u8]) -> (Piece<'a>, &'a [u8])
         ensures answers { λ r. ⌜ answers (r .0) ≡ items (now (self .entry) .passing) (now (block .entry)) (newlineAt (now (block .entry))) ⌝ }
         ensures left { λ r. ⌜ now (r .1) ≡ left (now (self .entry) .passing) (now (block .entry)) (newlineAt (now (block .entry))) ⌝ }
+        ensures onward { λ r. ⌜ Onward (r .0) (now (r .1)) (now (block .entry)) ⌝ }
         ensures passing { λ _. ⌜ now (self .exit) .passing ≡ goesOn (now (self .entry) .passing) (now (block .entry)) (newlineAt (now (block .entry))) ⌝ }
     {
         match find_newline(block) {
