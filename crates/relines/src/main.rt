@@ -3,7 +3,11 @@
 ghost use mathlib.Core.Path.{_≡_};
 ghost use Prim.Native.Nat.{_≤_, _<_};
 ghost use lib.ListN.{length};
+ghost use mathlib.Core.List.{_++_};
+ghost use Rattle.relines.specs.Answers.{Answers, word};
+ghost use Rattle.std.specs.Of.Vec.{vec-items};
 ghost use Rattle.std.specs.Results.{Cases};
+ghost use Rattle.std.specs.Vec.{made};
 use std::alloc::AllocError;
 use std::io;
 use std::io::Read;
@@ -17,11 +21,16 @@ use wire_format::line::LONGEST;
 // How much is read at a time.
 const BLOCK: usize = 65_536;
 
-fn refuse(out: &mut Vec<u8>) -> Result<(), AllocError> {
+fn refuse(out: &mut Vec<u8>) -> Result<(), AllocError>
+    ensures { λ r. ⌜ made r (λ _. vec-items (now (out .exit)) ≡ vec-items (now (out .entry)) ++ word) ⌝ }
+{
     out.extend_from_slice(b"shape\n")
 }
 
-fn answer(line: &[u8], out: &mut Vec<u8>) -> Result<(), AllocError> {
+// Answers one line, its newline included.
+fn answer(line: &[u8], out: &mut Vec<u8>) -> Result<(), AllocError>
+    ensures { λ r. ⌜ made r (λ _. Answers (now (line .entry)) (vec-items (now (out .entry))) (vec-items (now (out .exit)))) ⌝ }
+{
     let mut text = [0u8; LONGEST];
     match rewrite_line(line, &mut text) {
         Ok(size) => out.extend_from_slice(&text[0..size]),
