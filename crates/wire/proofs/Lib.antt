@@ -1,3 +1,2 @@
-pub mod Rereads
 pub mod Newlines
 pub mod Cutting

@@ -3,13 +3,14 @@ use mathlib.Core.Path.{_≡_}
 use mathlib.Core.List.{List}
 use mathlib.Core.Logic.{_⊎_}
 use Prim.Native.Nat.{ℕ}
+use Rattle.std.specs.Results.{Cases}
 use Rattle.std.specs.declared.option.Option.the-variants.{Some, None}
 use Rattle.std.specs.declared.result.Result.{Result}
 use Rattle.std.specs.declared.result.Result.the-variants.{Ok, Err}
 use Rattle.values.specs.declared.refusal.Refusal.{Refusal}
 use Rattle.values.specs.declared.refusal.Refusal.the-variants.{Shape}
 use Rattle.wire_format.specs.declared.line.Line.{Line}
-use Rattle.wire_format.specs.Format.{Text, written}
+use Rattle.wire_format.specs.Format.{written}
 use Rattle.wire_format.specs.Reading.{Reads}
 use Rattle.wire_format.specs.Writing.{writing, over}
 
@@ -31,7 +32,6 @@ Rewrites bs out r after =
     (IsLine bs × (r ≡ writing (Some bs) out) × (after ≡ over (Some bs) out))
     ⊎ ((IsLine bs → ⊥) × (r ≡ Err Shape) × (after ≡ out))
 
--- what a line says, written and read again, is the same; a line that cannot be written is refused
-abbrev pub reread : Line → Text → Result Line Refusal
-reread l None = Err Shape
-reread l (Some bs) = Ok l
+-- what a line says, written and read again, is the same; only a line that cannot be written is refused
+abbrev pub Rereads : Line → Result Line Refusal → Type 0
+Rereads l r = Cases r (λ k. k ≡ l) (λ e. (e ≡ Shape) × (written l ≡ None))

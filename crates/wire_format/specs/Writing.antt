@@ -1,7 +1,9 @@
 -- Writing: what is answered, and what the caller's bytes hold then.
+use mathlib.Core.Path.{_≡_}
 use mathlib.Core.Bool.{cond}
 use mathlib.Core.List.{List, _++_}
-use Prim.Native.Nat.{ℕ}
+use mathlib.Core.Logic.{_⊎_}
+use Prim.Native.Nat.{ℕ, _<_}
 use lib.Dec.{leb}
 use lib.ListN.{length, drop}
 use Rattle.std.specs.declared.option.Option.the-variants.{Some, None}
@@ -20,3 +22,7 @@ writing (Some bs) out = cond (leb 80 (length out)) (Ok (length bs)) (Err Rows)
 abbrev pub over : Text → List ℕ → List ℕ
 over None out = out
 over (Some bs) out = cond (leb 80 (length out)) (bs ++ drop (length bs) out) out
+
+-- why writing is refused
+abbrev pub Refused : Text → List ℕ → Refusal → Type 0
+Refused t out e = ((e ≡ Shape) × (t ≡ None)) ⊎ ((e ≡ Rows) × (length out < 80))

@@ -2,13 +2,13 @@
 ghost use mathlib.Core.Path.{_≡_};
 ghost use mathlib.Core.List.{[], _∷_, _++_};
 ghost use Prim.Native.Nat.{_+_, _≤_, _<_, _^_};
-ghost use lib.ListN.{length, take};
+ghost use lib.ListN.{length, take, drop};
 ghost use Rattle.std.specs.Written.{decimal};
 ghost use Rattle.std.specs.declared.option.Option.the-variants.{Some};
 ghost use Rattle.wire_format.specs.Format.{written, glued, count, optional, sideText, kindText, conditionText, priceText, eventText, tab, newline};
-ghost use Rattle.std.specs.Vec.{made as Made};
-ghost use Rattle.wire_format.specs.RoundTrips.{ReadsBack};
-ghost use Rattle.wire_format.specs.Writing.{writing, over};
+ghost use Rattle.std.specs.Results.{Cases};
+ghost use Rattle.values.specs.declared.refusal.Refusal.the-variants.{Rows};
+ghost use Rattle.wire_format.specs.Writing.{writing, over, Refused};
 ghost use Rattle.wire_write.specs.Tails.{made, Grown, Grows};
 use crate::tail::Tail;
 use values::order::Condition;
@@ -319,6 +319,31 @@ impl Tail {
             } => self.put_width(series, width, first, second),
         }
     }
+
+    // Copies the bytes to the front of `out`, which has room for the longest line, and says how many they are.
+    fn copy_to(&self, out: &mut [u8]) -> usize
+        requires { ⌜ 80 ≤ length (now out) ⌝ }
+        ensures size { λ r. ⌜ r ≡ length (made (now (self .entry))) ⌝ }
+        ensures bytes { λ r. ⌜ now (out .exit) ≡ made (now (self .entry)) ++ drop (length (made (now (self .entry)))) (now (out .entry)) ⌝ }
+        ensures text { λ r. ⌜ take r (now (out .exit)) ≡ made (now (self .entry)) ⌝ }
+        ensures within { λ r. ⌜ r ≤ 80 ⌝ }
+    {
+        let size = LONGEST - self.start;
+        out[0..size].copy_from_slice(&self.bytes[self.start..]);
+        size
+    }
+
+    // The same, unless `out` has no room for the longest line.
+    fn place(&self, out: &mut [u8]) -> Result<usize, Refusal>
+        ensures answer { λ r. ⌜ r ≡ writing (Some (made (now (self .entry)))) (now (out .entry)) ⌝ }
+        ensures bytes { λ _. ⌜ now (out .exit) ≡ over (Some (made (now (self .entry)))) (now (out .entry)) ⌝ }
+        ensures cases { λ r. ⌜ Cases r (λ size. (take size (now (out .exit)) ≡ made (now (self .entry))) × (size ≤ 80)) (λ e. (e ≡ Rows) × (length (now (out .entry)) < 80)) ⌝ }
+    {
+        if out.len() < LONGEST {
+            return Err(Refusal::Rows);
+        }
+        Ok(self.copy_to(out))
+    }
 }
 
 // Writes the line at the front of `out`, and says how many bytes it has. A line that cannot be written is refused first, then
@@ -326,15 +351,9 @@ impl Tail {
 pub fn write_line(line: Line, out: &mut [u8]) -> Result<usize, Refusal>
     ensures answer { λ r. ⌜ r ≡ writing (written line) (now (out .entry)) ⌝ }
     ensures bytes { λ _. ⌜ now (out .exit) ≡ over (written line) (now (out .entry)) ⌝ }
-    ensures within { λ r. ⌜ Made r (λ size. size ≤ 80) ⌝ }
-    ensures again { λ r. ⌜ Made r (λ size. ReadsBack line (take size (now (out .exit)))) ⌝ }
+    ensures cases { λ r. ⌜ Cases r (λ size. (written line ≡ Some (take size (now (out .exit)))) × (size ≤ 80)) (λ e. Refused (written line) (now (out .entry)) e) ⌝ }
 {
     let mut tail = Tail::empty();
     tail.put_line(line)?;
-    if out.len() < LONGEST {
-        return Err(Refusal::Rows);
-    }
-    let size = LONGEST - tail.start;
-    out[0..size].copy_from_slice(&tail.bytes[tail.start..]);
-    Ok(size)
+    tail.place(out)
 }
