@@ -22,22 +22,22 @@ use lib.Seq.{drop-cons}
 use native.Mathlib.Numerals.{add-one}
 use Rattle.std.proofs.shelf.Tests.{cases-lt, cases-order, cases-bool, ltb-true, lt-ltb, cond-true, cond-false}
 use Rattle.wire_format.specs.Format.{Text, glued, count}
-use Rattle.wire_read.specs.Fields.{Front, Run}
+use Rattle.wire_read.specs.Fields.{Front, Number, Run, Count}
 
 own : Numerals (Digits 10) (value 10)
 own = numerals-by-value (Digits 10) tells-digits
 
--- a turn of `read_digits`
-pub room : (s : List ℕ) (i n : ℕ) → i ≤ length s → Digits 10 (take i s) → n ≡ value 10 (take i s) → i < 9 → n < 10 ^ 8
-room s i n h d e lt = rw e (value-short own (take i s) 8 d (omega (arith, length-take-le i s h)))
-
-pub digit-small : (c : ℕ) → In 48 57 c → digitValue c < 10
+digit-small : (c : ℕ) → In 48 57 c → digitValue c < 10
 digit-small c h = omega (arith, digitValue-digit c h)
 
-pub turn : (s : List ℕ) (i n : ℕ) → i < length s → Digits 10 (take i s) → n ≡ value 10 (take i s) → In 48 57 (getD s i 0) → Digits 10 (take (i + 1) s) × (n * 10 + (getD s i 0 - 48) ≡ value 10 (take (i + 1) s))
-turn s i n lt d e is = (
-  digits-more 10 s i lt d (digit-small _ is),
-  omega (arith, value-more 10 s i lt, digitValue-digit _ is, e),
+-- fewer than nine digits leave room for one more
+pub room : (s : List ℕ) (i n : ℕ) → i ≤ length s → Number s n i → i < 9 → n < 10 ^ 8
+room s i n h d lt = rw (d .1) (value-short own (take i s) 8 (d .0) (omega (arith, length-take-le i s h)))
+
+pub one-more : (s : List ℕ) (i n : ℕ) → i < length s → Number s n i → In 48 57 (getD s i 0) → Number s (n * 10 + (getD s i 0 - 48)) (i + 1)
+one-more s i n lt d is = (
+  digits-more 10 s i lt (d .0) (digit-small _ is),
+  omega (arith, value-more 10 s i lt, digitValue-digit _ is, d .1),
 )
 
 -- what is written of a count that is written
@@ -50,13 +50,6 @@ glued-count end b t s e =
     (λ yes′. (ltb-true b _ yes′, let p : Some (decimal b ++ (end ∷ t)) ≡ Some s = sym (ap (λ x. glued end x (Some t)) (count-some b (ltb-true b _ yes′))) ∙ e in cc))
     (λ no′. let p : _≡_ {A = Text} None (Some s) = sym (ap (λ x. glued end x (Some t)) (cond-false (ltb b (10 ^ 9)) (Some (decimal b)) None no′)) ∙ e in let z : _≡_ {A = ℕ} 0 1 = cc in absurd (omega arith))
     (cases-bool (ltb b (10 ^ 9)))
-
--- the tests that `read_count` makes
-pub record Passes (s : List ℕ) (end i : ℕ) : Type 0 where
-  pub some : 0 < i
-  pub more : i < length s
-  pub ends : getD s i 0 ≡ end
-  pub lead : getD s 0 0 ≡ 48 → i ≡ 1
 
 module _ (s : List ℕ) (end n i : ℕ) (low : end < 48) (run : Run s n i) where
   -- where s begins with a count and `end`, the digits are those of the count
@@ -74,11 +67,11 @@ module _ (s : List ℕ) (end n i : ℕ) (low : end < 48) (run : Run s n i) where
       let dig = digit-at (decimal b) i ds less in
       absurd (run .stops (omega arith) (omega (arith, long)) (omega (arith, at, dig .0), omega (arith, at, dig .1))))
       (λ more.
-      let dig = digit-at (take i s) (length (decimal b)) (run .digits) (omega (arith, length-take-le i s (run .within))) in
+      let dig = digit-at (take i s) (length (decimal b)) (run .number .0) (omega (arith, length-take-le i s (run .within))) in
       absurd (omega (arith, dig .0, getD-take i s (length (decimal b)) 0 more, seam))))
       (cases-order i (length (decimal b)))
 
-  pub passes : (b : ℕ) (t : List ℕ) → glued end (count b) (Some t) ≡ Some s → Passes s end i
+  pub passes : (b : ℕ) (t : List ℕ) → glued end (count b) (Some t) ≡ Some s → Count s i end
   passes b t g =
       let small = glued-count end b t s g .0 in
       let e = glued-count end b t s g .1 in
@@ -97,14 +90,14 @@ module _ (s : List ℕ) (end n i : ℕ) (low : end < 48) (run : Run s n i) where
             (cases-lt 0 b);
       }
 
-  pub front : Passes s end i → Front count end s n (drop (i + 1) s)
+  pub front : Count s i end → Front count end s n (drop (i + 1) s)
   front p =
       let ds = take i s in
       let len = length-take-le i s (run .within) in
-      let small : n < 10 ^ 9 = rw (run .sum) (value-short own ds 9 (run .digits) (omega arith)) in
-      let big : value 10 ds < 2 ^ 64 = omega (arith, run .sum) in
+      let small : n < 10 ^ 9 = rw (run .number .1) (value-short own ds 9 (run .number .0) (omega arith)) in
+      let big : value 10 ds < 2 ^ 64 = omega (arith, run .number .1) in
       let lead : getD ds 0 0 ≡ 48 → length ds ≡ 1 = λ z. len ∙ p .lead (sym (getD-take i s 0 0 (p .some)) ∙ z) in
-      let spelled : decimal n ≡ ds = ap decimal (run .sum) ∙ decimal-value own ds (run .digits) (omega (arith, p .some)) lead big in
+      let spelled : decimal n ≡ ds = ap decimal (run .number .1) ∙ decimal-value own ds (run .number .0) (omega (arith, p .some)) lead big in
       let rest : drop i s ≡ end ∷ drop (i + 1) s = rw add-one (drop-cons s i 0 (p .more) ∙ ap (λ x. x ∷ drop (suc i) s) (p .ends)) in
       let whole : decimal n ++ (end ∷ drop (i + 1) s) ≡ s = ap (λ l. l ++ (end ∷ drop (i + 1) s)) spelled ∙ ap (λ l. ds ++ l) (sym rest) ∙ take-append-drop i s in
       record {

@@ -24,13 +24,23 @@ pub record Front {A : Type 0} (says : A → Text) (end : ℕ) (s : List ℕ) (a 
 abbrev pub Takes : {A : Type 0} → (A → Text) → ℕ → List ℕ → Result (A × RefT (List ℕ)) Refusal → Type 0
 Takes says end s r = Cases r (λ p. Front says end s (p .0) (p .1 .now)) (λ e. (e ≡ Shape) × ((b : _) (t : List ℕ) → glued end (says b) (Some t) ≡ Some s → ⊥))
 
--- the first i bytes of s are digits, at most nine, and write n; there are no more digits unless nine came
+-- the first i bytes of s are digits, and write n
+abbrev pub Number : List ℕ → ℕ → ℕ → Type 0
+Number s n i = Digits 10 (take i s) × (n ≡ value 10 (take i s))
+
+-- so they are, at most nine, and no digit follows unless nine came
 pub record Run (s : List ℕ) (n i : ℕ) : Type 0 where
   pub within : i ≤ length s
   pub short : i ≤ 9
-  pub digits : Digits 10 (take i s)
-  pub sum : n ≡ value 10 (take i s)
+  pub number : Number s n i
   pub stops : i < 9 → i < length s → In 48 57 (getD s i 0) → ⊥
+
+-- where the first i bytes of s are its digits, they are a count and `end` ends it: no leading zero but for 0 itself
+pub record Count (s : List ℕ) (i end : ℕ) : Type 0 where
+  pub some : 0 < i
+  pub more : i < length s
+  pub lead : getD s 0 0 ≡ 48 → i ≡ 1
+  pub ends : getD s i 0 ≡ end
 
 -- a letter, a tab and s
 abbrev pub under : String → List ℕ → List ℕ

@@ -1,10 +1,13 @@
 // Reading: the line that the bytes say, if they have one of the forms.
 ghost use mathlib.Core.Path.{_≡_};
 ghost use mathlib.Core.List.{_∷_};
-ghost use Prim.Native.Nat.{_<_};
+ghost use Prim.Native.Nat.{_<_, _+_};
+ghost use lib.ListN.{length, getD};
+ghost use Rattle.std.specs.Orderings.{When};
+ghost use Rattle.std.specs.Text.{In};
 ghost use Rattle.wire_format.specs.Format.{written, count, optional, sideText, kindText, conditionText, priceText, eventText, newline};
 ghost use Rattle.wire_format.specs.Reading.{Reads};
-ghost use Rattle.wire_read.specs.Fields.{Takes, Run, under};
+ghost use Rattle.wire_read.specs.Fields.{Takes, Number, Run, Count, under};
 use values::order::Condition;
 use values::order::Kind;
 use values::order::OrderPrice;
@@ -17,17 +20,41 @@ use wire_format::line::Line;
 // The most digits that a count may have.
 const MOST_DIGITS: usize = 9;
 
+// The number with the digit at `i` after it; `n` is that of the digits before it.
+fn with_digit(bytes: &[u8], i: usize, n: u32) -> u32
+    requires within { ⌜ i < length (now bytes) ⌝ }
+    requires short { ⌜ i < 9 ⌝ }
+    requires digit { ⌜ In 48 57 (getD (now bytes) i 0) ⌝ }
+    requires before { ⌜ Number (now bytes) n i ⌝ }
+    ensures { λ r. ⌜ Number (now (bytes .entry)) r (i + 1) ⌝ }
+{
+    n * 10 + (bytes[i] - b'0') as u32
+}
+
 // The number that the digits at the front write, and how many digits they are: at most nine are taken.
 fn read_digits(bytes: &[u8]) -> (u32, usize)
     ensures { λ r. ⌜ Run (now (bytes .entry)) (r .0) (r .1) ⌝ }
 {
-    let mut n: u32 = 0;
-    let mut i: usize = 0;
+    let mut n = 0;
+    let mut i = 0;
     while i < bytes.len() && i < MOST_DIGITS && bytes[i].is_ascii_digit() {
-        n = n * 10 + (bytes[i] - b'0') as u32;
+        n = with_digit(bytes, i, n);
         i += 1;
     }
     (n, i)
+}
+
+// Whether digits at the front, so many of them, are a count that the byte `end` ends.
+fn is_count(bytes: &[u8], digits: usize, end: u8) -> bool
+    ensures { λ r. ⌜ When r (Count (now (bytes .entry)) digits end) (Count (now (bytes .entry)) digits end → ⊥) ⌝ }
+{
+    if digits == 0 || digits >= bytes.len() {
+        return false;
+    }
+    if bytes[0] == b'0' && digits > 1 {
+        return false;
+    }
+    bytes[digits] == end
 }
 
 // A count that the byte `end` ends, and what follows.
@@ -36,13 +63,7 @@ fn read_count(bytes: &[u8], end: u8) -> Result<(u32, &[u8]), Refusal>
     ensures { λ r. ⌜ Takes count end (now (bytes .entry)) r ⌝ }
 {
     let (n, digits) = read_digits(bytes);
-    if digits == 0 || digits >= bytes.len() {
-        return Err(Refusal::Shape);
-    }
-    if bytes[digits] != end {
-        return Err(Refusal::Shape);
-    }
-    if bytes[0] == b'0' && digits > 1 {
+    if !is_count(bytes, digits, end) {
         return Err(Refusal::Shape);
     }
     Ok((n, &bytes[digits + 1..]))
@@ -252,23 +273,30 @@ fn read_width(bytes: &[u8]) -> Result<Line, Refusal>
     })
 }
 
-// The line that the bytes of one whole line say, its newline included.
+// What follows a tab, by the letter before it.
+fn read_form(letter: u8, bytes: &[u8]) -> Result<Line, Refusal>
+    ensures { λ r. ⌜ Reads written (letter ∷ (9 ∷ now (bytes .entry))) r ⌝ }
+{
+    match letter {
+        b'S' => read_series(bytes),
+        b'N' => read_nbbo(bytes),
+        b'U' => read_tape(bytes),
+        b'O' => read_order(bytes),
+        b'Q' => read_quote(bytes),
+        b'E' => read_enable(bytes),
+        b'X' => read_withdraw(bytes),
+        b'T' => read_clock(bytes),
+        b'W' => read_width(bytes),
+        _ => Err(Refusal::Shape),
+    }
+}
+
+// The line that the bytes say: those of one whole line, its newline included.
 pub fn read_line(bytes: &[u8]) -> Result<Line, Refusal>
     ensures { λ r. ⌜ Reads written (now (bytes .entry)) r ⌝ }
 {
     let [letter, b'\t', rest @ ..] = bytes else {
         return Err(Refusal::Shape);
     };
-    match *letter {
-        b'S' => read_series(rest),
-        b'N' => read_nbbo(rest),
-        b'U' => read_tape(rest),
-        b'O' => read_order(rest),
-        b'Q' => read_quote(rest),
-        b'E' => read_enable(rest),
-        b'X' => read_withdraw(rest),
-        b'T' => read_clock(rest),
-        b'W' => read_width(rest),
-        _ => Err(Refusal::Shape),
-    }
+    read_form(*letter, rest)
 }
