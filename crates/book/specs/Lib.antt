@@ -1,0 +1,6 @@
+pub mod Lists
+pub mod Rows
+pub mod Dues
+pub mod Taking
+pub mod Listings
+pub mod Books

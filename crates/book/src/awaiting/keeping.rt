@@ -1,0 +1,1 @@
+// What is asked of the due list, and done to it.

@@ -1,0 +1,144 @@
+// What is asked of the resting rows, and done to them.
+ghost use mathlib.Core.Path.{_≡_};
+ghost use mathlib.Core.Bool.{true, not, _&&_, _||_};
+ghost use mathlib.Core.List.{[]};
+ghost use Prim.Native.Nat.{_<_};
+ghost use lib.Dec.{eqb, ltb};
+ghost use lib.ListN.{length};
+ghost use Rattle.book.specs.Lists.{every, found};
+ghost use Rattle.book.specs.Rows.{sameSide, bidFirst, precedes, better, numbered, standsAt, notBefore, meets, crosses, sameMaker, sameQuote, agrees, sized, insert, without, rowOf, bestOf, renewed, settle, lowest, wantedFrom};
+ghost use Rattle.book.specs.Listings.{ranked};
+use super::PLACES;
+use super::Rows;
+use crate::places::Wanted;
+use crate::places::close_place;
+use crate::places::first_place;
+use crate::places::open_place;
+use crate::places::parting_place;
+use crate::row::Row;
+use crate::row::Standing;
+use values::side::Price;
+use values::side::Side;
+
+// Whether the two sides are one.
+fn is_same_side(a: Side, b: Side) -> bool
+    ensures { λ r. ⌜ r ≡ sameSide a b ⌝ }
+{
+    match (a, b) {
+        (Side::Buy, Side::Buy) | (Side::Sell, Side::Sell) => true,
+        (Side::Buy, Side::Sell) | (Side::Sell, Side::Buy) => false,
+    }
+}
+
+// Whether the first side is the bids and the second the offers.
+fn is_bid_first(a: Side, b: Side) -> bool
+    ensures { λ r. ⌜ r ≡ bidFirst a b ⌝ }
+{
+    match (a, b) {
+        (Side::Buy, Side::Sell) => true,
+        _ => false,
+    }
+}
+
+// Whether `a` is the better row, of two on one side of a series.
+fn is_better(a: Row, b: Row) -> bool
+    ensures { λ r. ⌜ r ≡ better a b ⌝ }
+{
+    !a.side.no_more_aggressive(a.display, b.display)
+        || a.display == b.display && a.number < b.number
+}
+
+// Whether `a` comes before `b` in the order of all rows.
+fn comes_before(a: Row, b: Row) -> bool
+    ensures { λ r. ⌜ r ≡ precedes a b ⌝ }
+{
+    a.series < b.series
+        || a.series == b.series
+            && (is_bid_first(a.side, b.side) || is_same_side(a.side, b.side) && is_better(a, b))
+}
+
+// Whether the row stands on the side of the series.
+fn is_at(row: Row, series: u8, side: Side) -> bool
+    ensures { λ r. ⌜ r ≡ standsAt series side row ⌝ }
+{
+    row.series == series && is_same_side(row.side, side)
+}
+
+// Whether the row stands on the contra side of the series, within the reach of the side.
+pub fn is_met(row: Row, series: u8, side: Side, reach: Price) -> bool
+    ensures { λ r. ⌜ r ≡ meets series side reach row ⌝ }
+{
+    row.series == series
+        && is_same_side(row.side, side.opposite())
+        && side.no_more_aggressive(row.display, reach)
+}
+
+fn is_same_maker(a: Standing, b: Standing) -> bool
+    ensures { λ r. ⌜ r ≡ sameMaker a b ⌝ }
+{
+    match (a, b) {
+        (Standing::Quote { maker: m }, Standing::Quote { maker: k }) => m == k,
+        _ => false,
+    }
+}
+
+// Whether the two rows may rest together.
+fn do_agree(a: Row, b: Row) -> bool
+    ensures { λ r. ⌜ r ≡ agrees a b ⌝ }
+{
+    a.number != b.number
+        && !is_met(b, a.series, a.side, a.display)
+        && !(is_at(b, a.series, a.side) && is_same_maker(a.standing, b.standing))
+}
+
+// The rows that a row comes before.
+#[derive(Clone, Copy)]
+struct Behind(Row);
+
+impl Wanted<Row> for Behind as BehindWanted {
+    ghost wants = { λ s r. precedes (s .0) r };
+
+    fn wants(&self, item: Row) -> bool {
+        comes_before(self.0, item)
+    }
+}
+
+// The row with a number.
+#[derive(Clone, Copy)]
+struct Numbered(u32);
+
+impl Wanted<Row> for Numbered as NumberedWanted {
+    ghost wants = { λ s r. numbered (s .0) r };
+
+    fn wants(&self, item: Row) -> bool {
+        item.number == self.0
+    }
+}
+
+// The rows on a side of a series, and all that come after them.
+#[derive(Clone, Copy)]
+struct From {
+    series: u8,
+    side: Side,
+}
+
+impl Wanted<Row> for From as FromWanted {
+    ghost wants = { λ s r. notBefore (s .series) (s .side) r };
+
+    fn wants(&self, item: Row) -> bool {
+        self.series < item.series
+            || self.series == item.series && !is_bid_first(item.side, self.side)
+    }
+}
+
+// The rows that may not rest together with a row.
+#[derive(Clone, Copy)]
+struct Against(Row);
+
+impl Wanted<Row> for Against as AgainstWanted {
+    ghost wants = { λ s r. not (agrees (s .0) r) };
+
+    fn wants(&self, item: Row) -> bool {
+        !do_agree(self.0, item)
+    }
+}

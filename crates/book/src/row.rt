@@ -1,0 +1,60 @@
+// What rests in a book, and what comes of trading and withdrawing it.
+use values::side::Price;
+use values::side::Side;
+
+// What a row is: an order at its limit, an order held by its collar, or a maker's quote.
+#[derive(Clone, Copy)]
+pub enum Standing {
+    Plain,
+    // The display price moves `collar` cents onward at the moment `due`.
+    Held { collar: Price, due: u32 },
+    Quote { maker: u8 },
+}
+
+// An order or a quote of which something is left.
+#[derive(Clone, Copy)]
+pub struct Row {
+    pub number: u32,
+    pub series: u8,
+    pub side: Side,
+    // The price at which it trades with a taker.
+    pub display: Price,
+    // The most aggressive price at which it may ever trade.
+    pub limit: Price,
+    // Contracts left.
+    pub size: u32,
+    pub standing: Standing,
+}
+
+// The moment at which the held order with a number moves.
+#[derive(Clone, Copy)]
+pub struct Due {
+    pub moment: u32,
+    pub number: u32,
+}
+
+// An order or a quote that trades with the rows of the contra side, up to the price `reach`.
+#[derive(Clone, Copy)]
+pub struct Taker {
+    pub number: u32,
+    pub series: u8,
+    pub side: Side,
+    pub reach: Price,
+}
+
+// A row of the roll of trades: `taker` and `resting` are numbers.
+#[derive(Clone, Copy)]
+pub struct Trade {
+    pub series: u8,
+    pub price: Price,
+    pub size: u32,
+    pub taker: u32,
+    pub resting: u32,
+}
+
+// A row of the roll of withdrawals: what was left of the order or quote.
+#[derive(Clone, Copy)]
+pub struct Withdrawal {
+    pub number: u32,
+    pub left: u32,
+}
