@@ -41,7 +41,7 @@ first-upto p (x ∷ xs) zero d l h = rw h (omega arith)
 first-upto p (x ∷ xs) (suc i) d l h =
     elim (p x) as (λ b. cond b 0 (suc (first p xs)) ≤ suc i) [ true ↦ omega arith | false ↦ omega (arith, first-upto p xs i d (omega arith) h) ]
 
-every-getD : {X : Type 0} (p : X → Bool) (xs : List X) (i : ℕ) (d : X) → i < length xs → every p xs ≡ true → p (getD xs i d) ≡ true
+pub every-getD : {X : Type 0} (p : X → Bool) (xs : List X) (i : ℕ) (d : X) → i < length xs → every p xs ≡ true → p (getD xs i d) ≡ true
 every-getD p [] i d l h = absurd (omega arith)
 every-getD p (x ∷ xs) zero d l h = and-parts (p x) _ h .0
 every-getD p (x ∷ xs) (suc i) d l h = every-getD p xs i d (omega arith) (and-parts (p x) _ h .1)
@@ -54,7 +54,8 @@ first-past {X} p (x ∷ xs) (suc i) d h l e =
     let a = and-parts (every (λ b. not (p x) || p b) xs) _ h in
     let here = every-getD (λ b. not (p x) || p b) xs i d (omega arith) (a .0) in
     let step : (b : Bool) → p x ≡ b → suc i < cond b 0 (suc (first p xs)) =
-        λ b. elim b as (λ b. p x ≡ b → suc i < cond b 0 (suc (first p xs)))
-        [ true ↦ λ is. absurd (both-ways (p (getD xs i d)) e (sym (ap (λ t. not t || p (getD xs i d)) is) ∙ here))
-        | false ↦ λ is. omega (arith, first-past p xs i d (a .1) (omega arith) e) ] in
+    λ b. elim b as (λ b. p x ≡ b → suc i < cond b 0 (suc (first p xs))) [
+      | true ↦ λ is. absurd (both-ways (p (getD xs i d)) e (sym (ap (λ t. not t || p (getD xs i d)) is) ∙ here))
+      | false ↦ λ is. omega (arith, first-past p xs i d (a .1) (omega arith) e)
+    ] in
     step (p x) refl

@@ -32,7 +32,7 @@ module _ {X : Type 0} where
   pub opened-more : (xs ys : List X) (k n : ℕ) (v : X) → 0 < k → k ≤ n → n < length ys → v ≡ getD ys (k - 1) v → Opened xs ys k n → Opened xs (set ys k v) (k - 1) n
   opened-more xs ys k n v pos le room read o =
       let was : (d : X) → v ≡ getD xs (k - 1) d =
-          λ d. getD-read ys (k - 1) v (omega arith) read d ∙ o .below (k - 1) d (omega arith) in
+      λ d. getD-read ys (k - 1) v (omega arith) read d ∙ o .below (k - 1) d (omega arith) in
       record {
         long = length-set ys k v ∙ o .long;
         below = λ j d h. getD-set-other ys k j v d (λ e. omega arith) ∙ o .below j d (omega arith);
@@ -50,14 +50,14 @@ module _ {X : Type 0} where
       let longer : length (take (n + 1) (set ys at v)) ≡ n + 1 = length-take-le (n + 1) (set ys at v) (simp length-set (omega (arith, o .long))) in
       same-lists _ _ (longer ∙ omega (arith, length-inserted (take n xs) at v within))
       (λ k d h. let lt : k < n + 1 = omega arith in getD-take (n + 1) (set ys at v) k d lt ∙ ⊎-elim
-          (λ (e : k ≡ at). subst (λ m. getD (set ys at v) m d ≡ getD (inserted (take n xs) at v) m d) (sym e)
-              (getD-set-same ys at v d (omega (arith, o .long)) ∙ sym (getD-inserted-at (take n xs) at v d within)))
-          (⊎-elim
-            (λ (l : k < at). getD-set-other ys at k v d (λ e. omega arith) ∙ o .below k d (omega arith) ∙ sym (getD-inserted-below (take n xs) at v d k l within ∙ getD-take n xs k d (omega arith)))
-            (λ (l : at < k). let e : k - 1 + 1 ≡ k = omega arith in
-              subst (λ m. getD (set ys at v) m d ≡ getD (inserted (take n xs) at v) m d) e
-              (getD-set-other ys at (k - 1 + 1) v d (λ q. omega arith) ∙ o .moved (k - 1) d (omega arith) (omega arith) ∙ sym (getD-inserted-above (take n xs) at v d (k - 1) (omega arith) within ∙ getD-take n xs (k - 1) d (omega arith)))))
-          (cases-order k at))
+      (λ (e : k ≡ at). subst (λ m. getD (set ys at v) m d ≡ getD (inserted (take n xs) at v) m d) (sym e)
+      (getD-set-same ys at v d (omega (arith, o .long)) ∙ sym (getD-inserted-at (take n xs) at v d within)))
+      (⊎-elim
+      (λ (l : k < at). getD-set-other ys at k v d (λ e. omega arith) ∙ o .below k d (omega arith) ∙ sym (getD-inserted-below (take n xs) at v d k l within ∙ getD-take n xs k d (omega arith)))
+      (λ (l : at < k). let e : k - 1 + 1 ≡ k = omega arith in
+      subst (λ m. getD (set ys at v) m d ≡ getD (inserted (take n xs) at v) m d) e
+      (getD-set-other ys at (k - 1 + 1) v d (λ q. omega arith) ∙ o .moved (k - 1) d (omega arith) (omega arith) ∙ sym (getD-inserted-above (take n xs) at v d (k - 1) (omega arith) within ∙ getD-take n xs (k - 1) d (omega arith)))))
+      (cases-order k at))
 
   pub opened-rest : (xs ys : List X) (at n : ℕ) (v : X) → at ≤ n → Opened xs ys at n → drop (n + 1) (set ys at v) ≡ drop (n + 1) xs
   opened-rest xs ys at n v le o =
@@ -70,7 +70,7 @@ module _ {X : Type 0} where
   pub closed-more : (xs ys : List X) (at k : ℕ) (v : X) → at < k → k < length ys → v ≡ getD ys k v → Closed xs ys at k → Closed xs (set ys (k - 1) v) at (k + 1)
   closed-more xs ys at k v lt room read o =
       let was : (d : X) → v ≡ getD xs k d =
-          λ d. getD-read ys k v room read d ∙ o .above k d (omega arith) in
+      λ d. getD-read ys k v room read d ∙ o .above k d (omega arith) in
       record {
         long = length-set ys (k - 1) v ∙ o .long;
         below = λ j d h. getD-set-other ys (k - 1) j v d (λ e. omega arith) ∙ o .below j d h;
@@ -88,9 +88,9 @@ module _ {X : Type 0} where
       let shorter : length (take (n - 1) ys) ≡ n - 1 = length-take-le (n - 1) ys (omega (arith, o .long)) in
       same-lists _ _ (omega (arith, shorter, length-removed (take n xs) at within))
       (λ k d h. let le : k < n - 1 = omega arith in getD-take (n - 1) ys k d le ∙ ⊎-elim
-          (λ (l : k < at). o .below k d l ∙ sym (getD-removed-below (take n xs) at d k l within ∙ getD-take n xs k d (omega arith)))
-          (λ (l : at ≤ k). o .moved k d l (omega arith) ∙ sym (getD-removed-above (take n xs) at d k l within ∙ getD-take n xs (k + 1) d (omega arith)))
-          (cases-lt k at))
+      (λ (l : k < at). o .below k d l ∙ sym (getD-removed-below (take n xs) at d k l within ∙ getD-take n xs k d (omega arith)))
+      (λ (l : at ≤ k). o .moved k d l (omega arith) ∙ sym (getD-removed-above (take n xs) at d k l within ∙ getD-take n xs (k + 1) d (omega arith)))
+      (cases-lt k at))
 
   pub closed-rest : (xs ys : List X) (at n : ℕ) → Closed xs ys at n → drop n ys ≡ drop n xs
   closed-rest xs ys at n o =

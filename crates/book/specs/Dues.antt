@@ -39,6 +39,12 @@ listed Plain n ds = ds
 listed (Held c d) n ds = entered (dueAt d n) ds
 listed (Quote m) n ds = ds
 
+-- and no longer has it
+abbrev pub unlisted : Standing → ℕ → List Due → List Due
+unlisted Plain n ds = ds
+unlisted (Held c d) n ds = lacking (owed n) ds
+unlisted (Quote m) n ds = ds
+
 -- the due list of the rows: exactly the held orders have one entry each
 unfoldable pub dueList : List Row → List Due
 dueList [] = []

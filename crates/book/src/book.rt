@@ -6,6 +6,9 @@ ghost use Rattle.book.specs.Listings.{ranked, waiting};
 use crate::awaiting::Dues;
 use crate::resting::Rows;
 
+pub mod keeping;
+pub mod taking;
+
 // The due list is that of the rows: exactly the held orders have one entry each, at their moment.
 #[derive(Drop)]
 pub struct Book {

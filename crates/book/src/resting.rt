@@ -1,6 +1,7 @@
 // The rows that rest, in their order.
+ghost use mathlib.Core.Path.{_≡_};
 ghost use Prim.Native.Nat.{_≤_};
-ghost use lib.ListN.{take};
+ghost use lib.ListN.{length, take};
 ghost use Rattle.book.specs.Rows.{Sound};
 use crate::row::Row;
 
@@ -16,5 +17,6 @@ pub struct Rows {
     slots: [Row; PLACES],
     count: usize,
     ghost few: { count ≤ 256 },
+    ghost whole: { length slots ≡ 256 },
     ghost sound: { Sound (take count slots) },
 }

@@ -1,4 +1,6 @@
 // What rests in a book, and what comes of trading and withdrawing it.
+ghost use mathlib.Core.Path.{_≡_};
+ghost use Rattle.book.specs.Rows.{onceMoved, renewed};
 use values::side::Price;
 use values::side::Side;
 
@@ -57,4 +59,32 @@ pub struct Trade {
 pub struct Withdrawal {
     pub number: u32,
     pub left: u32,
+}
+
+impl Standing {
+    // The standing after a trade: a held order is due anew.
+    pub fn renew(self, due: u32) -> Standing
+        ensures { λ r. ⌜ r ≡ renewed due self ⌝ }
+    {
+        match self {
+            Standing::Held { collar, due: _ } => Standing::Held { collar, due },
+            Standing::Plain | Standing::Quote { maker: _ } => self,
+        }
+    }
+
+    // The standing after the display price moved: at its limit a held order becomes plain, before it is due anew.
+    pub fn move_on(self, at_limit: bool, due: u32) -> Standing
+        ensures { λ r. ⌜ r ≡ onceMoved «at_limit» due self ⌝ }
+    {
+        match self {
+            Standing::Held { collar, due: _ } => {
+                if at_limit {
+                    Standing::Plain
+                } else {
+                    Standing::Held { collar, due }
+                }
+            }
+            Standing::Plain | Standing::Quote { maker: _ } => self,
+        }
+    }
 }

@@ -6,7 +6,7 @@ ghost use Prim.Native.Nat.{_<_};
 ghost use lib.Dec.{eqb, ltb};
 ghost use lib.ListN.{length};
 ghost use Rattle.book.specs.Lists.{every, found};
-ghost use Rattle.book.specs.Rows.{sameSide, bidFirst, precedes, better, numbered, standsAt, notBefore, meets, crosses, sameMaker, sameQuote, agrees, sized, insert, without, rowOf, bestOf, renewed, settle, lowest, wantedFrom};
+ghost use Rattle.book.specs.Rows.{sameSide, bidFirst, precedes, better, numbered, standsAt, notBefore, meets, crosses, sameMaker, sameQuote, agrees, sized, insert, without, rowOf, bestOf, settle, lower, lowest, wantedFrom};
 ghost use Rattle.book.specs.Listings.{ranked};
 use super::PLACES;
 use super::Rows;
@@ -140,5 +140,151 @@ impl Wanted<Row> for Against as AgainstWanted {
 
     fn wants(&self, item: Row) -> bool {
         !do_agree(self.0, item)
+    }
+}
+
+// Of a row and another, if there is another, the one with the lower number.
+fn lower_of(row: Row, other: Option<Row>) -> Option<Row>
+    ensures { λ r. ⌜ r ≡ lower true row other ⌝ }
+{
+    match other {
+        Some(next) => {
+            if row.number < next.number {
+                Some(row)
+            } else {
+                Some(next)
+            }
+        }
+        None => Some(row),
+    }
+}
+
+impl Rows {
+    pub fn new() -> Rows
+        ensures { λ r. ⌜ ranked r ≡ [] ⌝ }
+    {
+        let none = Row {
+            number: 0,
+            series: 0,
+            side: Side::Buy,
+            display: 0,
+            limit: 0,
+            size: 0,
+            standing: Standing::Plain,
+        };
+        Rows {
+            slots: [none; PLACES],
+            count: 0,
+        }
+    }
+
+    pub fn len(&self) -> usize
+        ensures { λ r. ⌜ r ≡ length (ranked (now (self .entry))) ⌝ }
+    {
+        self.count
+    }
+
+    // The row with a number.
+    pub fn row(&self, number: u32) -> Option<Row>
+        ensures { λ r. ⌜ r ≡ rowOf number (ranked (now (self .entry))) ⌝ }
+    {
+        let at = first_place(&self.slots, self.count, &Numbered(number));
+        if at < self.count {
+            Some(self.slots[at])
+        } else {
+            None
+        }
+    }
+
+    // Whether a row may rest together with each of the rows.
+    pub fn admits(&self, row: Row) -> bool
+        ensures { λ r. ⌜ r ≡ every (agrees row) (ranked (now (self .entry))) ⌝ }
+    {
+        first_place(&self.slots, self.count, &Against(row)) == self.count
+    }
+
+    // Puts a row at its rank.
+    pub fn insert(&mut self, row: Row)
+        requires room { ⌜ length (ranked (now self)) < 256 ⌝ }
+        requires fits { ⌜ every (agrees row) (ranked (now self)) ≡ true ⌝ }
+        requires some { ⌜ sized row ≡ true ⌝ }
+        ensures { λ _. ⌜ ranked (now (self .exit)) ≡ insert row (ranked (now (self .entry))) ⌝ }
+    {
+        let at = parting_place(&self.slots, self.count, &Behind(row));
+        open_place(&mut self.slots, self.count, at, row);
+        self.count += 1;
+    }
+
+    // Takes out the row with a number.
+    pub fn remove(&mut self, number: u32) -> Option<Row>
+        ensures answer { λ r. ⌜ r ≡ rowOf number (ranked (now (self .entry))) ⌝ }
+        ensures after { λ _. ⌜ ranked (now (self .exit)) ≡ without number (ranked (now (self .entry))) ⌝ }
+    {
+        let at = first_place(&self.slots, self.count, &Numbered(number));
+        if at < self.count {
+            let row = self.slots[at];
+            close_place(&mut self.slots, self.count, at);
+            self.count -= 1;
+            Some(row)
+        } else {
+            None
+        }
+    }
+
+    // The best row on a side of a series.
+    pub fn best(&self, series: u8, side: Side) -> Option<Row>
+        ensures { λ r. ⌜ r ≡ bestOf series side (ranked (now (self .entry))) ⌝ }
+    {
+        let at = parting_place(&self.slots, self.count, &From { series, side });
+        if at < self.count {
+            let row = self.slots[at];
+            if is_at(row, series, side) {
+                Some(row)
+            } else {
+                None
+            }
+        } else {
+            None
+        }
+    }
+
+    // Takes contracts off the row with a number, and the row out where none is left: what it was before.
+    pub fn settle(&mut self, number: u32, by: u32, due: u32) -> Option<Row>
+        ensures answer { λ r. ⌜ r ≡ rowOf number (ranked (now (self .entry))) ⌝ }
+        ensures after { λ _. ⌜ ranked (now (self .exit)) ≡ settle due by number (ranked (now (self .entry))) ⌝ }
+    {
+        let at = first_place(&self.slots, self.count, &Numbered(number));
+        if at < self.count {
+            let row = self.slots[at];
+            if row.size <= by {
+                close_place(&mut self.slots, self.count, at);
+                self.count -= 1;
+            } else if by > 0 {
+                self.slots[at] = Row {
+                    size: row.size - by,
+                    standing: row.standing.renew(due),
+                    ..row
+                };
+            }
+            Some(row)
+        } else {
+            None
+        }
+    }
+
+    // Of the rows from a number on that are wanted, the one with the lowest number.
+    pub fn lowest<W: Wanted<Row>>(&self, from: u32, wanted: &W) -> Option<Row>
+        ensures { λ r. ⌜ r ≡ lowest (wantedFrom (wants (now (wanted .entry))) from) (ranked (now (self .entry))) ⌝ }
+    {
+        let mut best = None;
+        let mut k = self.count;
+        while k > 0 {
+            k -= 1;
+            let row = self.slots[k];
+            if from <= row.number && wanted.wants(row) {
+                best = lower_of(row, best);
+            }
+        }
+        best
     }
 }

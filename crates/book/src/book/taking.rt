@@ -1,0 +1,1 @@
+// How a taker trades with the rows of a book.
