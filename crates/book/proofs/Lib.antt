@@ -8,3 +8,4 @@ pub mod Steps
 pub mod Turns
 pub mod Ties
 pub mod Tied
+pub mod Takes
