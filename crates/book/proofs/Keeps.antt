@@ -4,11 +4,13 @@ use mathlib.Core.Bool.{Bool, true, false, cond, not, _&&_, _||_}
 use mathlib.Core.List.{List, [], _∷_, _++_}
 use Prim.Native.Nat.{ℕ, suc, zero, _+_, _-_, _≤_, _<_}
 use native.Mathlib.Omega.{arith}
+use lib.Dec.{eqb}
 use lib.ListN.{length, getD, set, take, drop}
 use Rattle.std.specs.Holes.{inserted, removed}
 use Rattle.std.specs.declared.option.Option.{Option}
 use Rattle.std.specs.declared.option.Option.the-variants.{Some, None}
 use Rattle.std.proofs.shelf.Tests.{and-parts, and-from, cond-true, cond-false, both-ways}
+use Rattle.std.proofs.shelf.Ways.{tells}
 use Rattle.book.specs.Lists.{first, found, orElse, placed, lacking, every, pairwise, parted, head}
 
 -- cases on a test
@@ -164,3 +166,24 @@ pub head-is : {X : Type 0} (n : ℕ) (xs : List X) (d : X) → 0 < n → n ≤ l
 head-is zero xs d pos le = absurd (omega arith)
 head-is (suc n) [] d pos le = absurd (omega arith)
 head-is (suc n) (x ∷ xs) d pos le = refl
+
+-- the first that fails is past the end exactly where every one passes
+pub all-pass : {X : Type 0} (q : X → Bool) (xs : List X) → eqb (first (λ x. not (q x)) xs) (length xs) ≡ every q xs
+all-pass q [] = refl
+all-pass q (x ∷ xs) =
+    let rest = all-pass q xs in
+    elim (q x) as (λ b. eqb (cond (not b) 0 (suc (first (λ x. not (q x)) xs))) (suc (length xs)) ≡ (b && every q xs))
+    [ true ↦ up (first (λ x. not (q x)) xs) (length xs) ∙ rest | false ↦ grind (arith, tells) ]
+  where
+    up : (m n : ℕ) → eqb (suc m) (suc n) ≡ eqb m n
+    up m n = grind (arith, tells)
+
+-- every element that does not pass p passes q, so every one that is left does
+pub every-left : {X : Type 0} (p q : X → Bool) (xs : List X) → every (λ x. p x || q x) xs ≡ true → every q (lacking p xs) ≡ true
+unfolding lacking
+every-left p q [] h = refl
+every-left p q (x ∷ xs) h =
+    let a = and-parts (p x || q x) _ h in
+    decide (p x)
+    (λ e. ap (every q) (cond-true _ _ _ e) ∙ every-left p q xs (a .1))
+    (λ e. ap (every q) (cond-false _ _ _ e) ∙ and-from _ _ (sym (ap (λ t. t || q x) e) ∙ a .0) (every-left p q xs (a .1)))

@@ -68,6 +68,10 @@ sameQuote a b = standsAt (a .series) (a .side) b && sameMaker (a .standing) (b .
 abbrev pub agrees : Row → Row → Bool
 agrees a b = not (eqb (a .number) (b .number)) && (not (crosses a b) && not (sameQuote a b))
 
+-- the same, where a takes the place of the row that has its number
+abbrev pub agreesInstead : Row → Row → Bool
+agreesInstead a b = numbered (a .number) b || agrees a b
+
 abbrev pub sized : Row → Bool
 sized r = ltb 0 (r .size)
 
@@ -134,6 +138,14 @@ movedIn (Some r) p due rs = insert (movedTo p due r) (without (r .number) rs)
 -- the row n displayed at p, at its new rank
 abbrev pub moveRow : ℕ → ℕ → ℕ → List Row → List Row
 moveRow n p due rs = movedIn (rowOf n rs) p due rs
+
+-- the row n may be displayed at p: there it may rest together with every other row
+abbrev pub mayMoveIn : Option Row → ℕ → ℕ → List Row → Bool
+mayMoveIn None p due rs = true
+mayMoveIn (Some r) p due rs = every (agreesInstead (movedTo p due r)) rs
+
+abbrev pub mayMove : ℕ → ℕ → ℕ → List Row → Bool
+mayMove n p due rs = mayMoveIn (rowOf n rs) p due rs
 
 -- ---- the lowest number
 

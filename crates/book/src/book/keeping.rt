@@ -1,12 +1,11 @@
 // What is asked of a book, and done to its rows.
 ghost use mathlib.Core.Path.{_≡_};
 ghost use mathlib.Core.Bool.{true};
-ghost use mathlib.Core.List.{List, []};
+ghost use mathlib.Core.List.{[]};
 ghost use Prim.Native.Nat.{_<_, _≤_};
 ghost use lib.ListN.{length};
-ghost use Rattle.std.specs.declared.option.Option.the-variants.{Some};
 ghost use Rattle.book.specs.Lists.{every, head};
-ghost use Rattle.book.specs.Rows.{agrees, sized, insert, without, rowOf, bestOf, settle, movedTo, moveRow, lowest, wantedFrom};
+ghost use Rattle.book.specs.Rows.{agrees, sized, insert, without, rowOf, bestOf, settle, mayMove, moveRow, lowest, wantedFrom};
 ghost use Rattle.book.specs.Dues.{earliest};
 ghost use Rattle.book.specs.Books.{rows, dues};
 use crate::awaiting::Dues;
@@ -102,9 +101,23 @@ impl Book {
         }
     }
 
+    // Whether the row with a number may be displayed at another price: it crosses no other row there. Where there is none, it may.
+    pub fn can_move(&self, number: u32, display: Price, due: u32) -> bool
+        ensures { λ r. ⌜ r ≡ mayMove number display due (rows (now (self .entry))) ⌝ }
+    {
+        match self.row(number) {
+            Some(row) => self.resting.admits_instead(Row {
+                display,
+                standing: row.standing.move_on(display == row.limit, due),
+                ..row
+            }),
+            None => true,
+        }
+    }
+
     // Displays the row with a number at another price, at its new rank. A held order is due next at `due`, or becomes plain at its limit.
     pub fn move_display(&mut self, number: u32, display: Price, due: u32)
-        requires { ⌜ ((r : Row) → rowOf number (rows (now self)) ≡ Some r → every (agrees (movedTo display due r)) (without number (rows (now self))) ≡ true) ⌝ }
+        requires { ⌜ mayMove number display due (rows (now self)) ≡ true ⌝ }
         ensures { λ _. ⌜ rows (now (self .exit)) ≡ moveRow number display due (rows (now (self .entry))) ⌝ }
     {
         if let Some(row) = self.withdraw(number) {

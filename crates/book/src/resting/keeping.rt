@@ -6,7 +6,7 @@ ghost use Prim.Native.Nat.{_<_};
 ghost use lib.Dec.{eqb, ltb};
 ghost use lib.ListN.{length};
 ghost use Rattle.book.specs.Lists.{every, found};
-ghost use Rattle.book.specs.Rows.{sameSide, bidFirst, precedes, better, numbered, standsAt, notBefore, meets, crosses, sameMaker, sameQuote, agrees, sized, insert, without, rowOf, bestOf, settle, lower, lowest, wantedFrom};
+ghost use Rattle.book.specs.Rows.{sameSide, bidFirst, precedes, better, numbered, standsAt, notBefore, meets, crosses, sameMaker, sameQuote, agrees, agreesInstead, sized, insert, without, rowOf, bestOf, settle, lower, lowest, wantedFrom};
 ghost use Rattle.book.specs.Listings.{ranked};
 use super::PLACES;
 use super::Rows;
@@ -143,6 +143,19 @@ impl Wanted<Row> for Against as AgainstWanted {
     }
 }
 
+// The rows that may not rest together with a row, but for the one that has its number.
+#[derive(Clone, Copy)]
+struct Besides(Row);
+
+impl Wanted<Row> for Besides as BesidesWanted {
+    ghost wants = { λ s r. not (agreesInstead (s .0) r) };
+
+    fn wants(&self, item: Row) -> bool {
+        let row = self.0;
+        item.number != row.number && !do_agree(row, item)
+    }
+}
+
 // Of a row and another, if there is another, the one with the lower number.
 fn lower_of(row: Row, other: Option<Row>) -> Option<Row>
     ensures { λ r. ⌜ r ≡ lower true row other ⌝ }
@@ -201,6 +214,13 @@ impl Rows {
         ensures { λ r. ⌜ r ≡ every (agrees row) (ranked (now (self .entry))) ⌝ }
     {
         first_place(&self.slots, self.count, &Against(row)) == self.count
+    }
+
+    // Whether a row may rest together with each of the rows but the one that has its number.
+    pub fn admits_instead(&self, row: Row) -> bool
+        ensures { λ r. ⌜ r ≡ every (agreesInstead row) (ranked (now (self .entry))) ⌝ }
+    {
+        first_place(&self.slots, self.count, &Besides(row)) == self.count
     }
 
     // Puts a row at its rank.
