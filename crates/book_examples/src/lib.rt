@@ -42,7 +42,13 @@ pub fn move_on(book: &mut Book, number: u32, display: Price, due: u32) -> bool
 }
 
 // Takes where the roll has room for a trade with each row: what is left, or nothing where it has none.
-pub fn take(book: &mut Book, taker: Taker, size: u32, due: u32, trades: &mut Roll<Trade>) -> Option<u32> {
+pub fn take(
+    book: &mut Book,
+    taker: Taker,
+    size: u32,
+    due: u32,
+    trades: &mut Roll<Trade>,
+) -> Option<u32> {
     if book.len() <= trades.free() {
         Some(book.take(taker, size, due, trades))
     } else {
