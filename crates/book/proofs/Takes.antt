@@ -7,6 +7,7 @@ use Prim.Native.Nat.{ℕ, zero, suc, _+_, _-_, _≤_, _<_, min}
 use native.Mathlib.Omega.{arith}
 use lib.Dec.{leb, ltb, eqb}
 use lib.ListN.{length}
+use Rattle.std.specs.shelf.Lists.{All}
 use Rattle.std.specs.declared.option.Option.{Option}
 use Rattle.std.specs.declared.option.Option.the-variants.{Some, None}
 use Rattle.std.proofs.shelf.Lists.{reverse-append, reverse-reverse, append-assoc}
@@ -23,7 +24,7 @@ use Rattle.book.specs.declared.row.Taker.{Taker}
 use Rattle.book.specs.declared.row.Trade.{Trade}
 use Rattle.book.specs.Lists.{found, orElse, every, pairwise}
 use Rattle.book.specs.Rows.{Sound, sameSide, bidFirst, better, precedes, agrees, sized, numbered, standsAt, meets, bestOf, resized, put, cut, settle}
-use Rattle.book.specs.Taking.{inReach, amount, tradeWith, note, Fill, take, Has, BestOf, NoneInReach, Takes, done, trade, traded, Took}
+use Rattle.book.specs.Taking.{inReach, amount, tradeWith, note, Fill, take, Has, BestOf, NoneInReach, Takes, done, trade, traded, Fair, Took}
 use Rattle.book.proofs.Keeps.{decide, fails, every-weaker, found-none}
 use Rattle.book.proofs.Orders.{agrees-number}
 use Rattle.book.proofs.Settles.{cut-all, cut-part, settle-here, settle-past, length-settle}
@@ -295,6 +296,25 @@ few due t n (r ∷ rs) j =
 pub take-few : (due : ℕ) (t : Taker) (n : ℕ) (rs : List Row) → length (take due t n rs [] .trades) + length (take due t n rs [] .rows) ≤ length rs + 1
 take-few due t n rs = omega (arith, few due t n rs [])
 
+-- ---- what holds of each trade
+
+note-all : (P : Trade → Type 0) (q : ℕ) (e : Trade) (j : List Trade) → (0 < q → P e) → All P j → All P (note q e j)
+note-all P zero e j h all = all
+note-all P (suc q) e j h all = (h (omega arith), all)
+
+amount-reached : (t : Taker) (n : ℕ) (r : Row) → 0 < amount t n r → inReach t r ≡ true
+amount-reached t n r p = decide (inReach t r) (λ e. e) (λ e. let z = amount-out t n r e in absurd (omega arith))
+
+take-all : (P : Trade → Type 0) (due : ℕ) (t : Taker) (n : ℕ) (rs : List Row) (j : List Trade) → ((r : Row) → Has r rs → inReach t r ≡ true → (q : ℕ) → 0 < q → q ≤ r .size → P (tradeWith t q r)) → All P j → All P (take due t n rs j .trades)
+unfolding take
+take-all P due t n [] j h all = all
+take-all P due t n (r ∷ rs) j h all =
+    let q = amount t n r in
+    take-all P due t (n - q) rs (note q (tradeWith t q r) j) (λ x i. h x (inr i)) (note-all P q (tradeWith t q r) j (λ p. h r (inl refl) (amount-reached t n r p) q p (amount-size t n r)) all)
+
+pub take-fair : (due : ℕ) (t : Taker) (n : ℕ) (rs : List Row) → All (Fair t rs) (take due t n rs [] .trades)
+take-fair due t n rs = take-all (Fair t rs) due t n rs [] (λ r i e q p l. (r, i, e, p, l, refl)) tt
+
 -- ---- the rule
 
 has-every : (q : Row → Bool) (rs : List Row) (r : Row) → every q rs ≡ true → Has r rs → q r ≡ true
@@ -393,6 +413,7 @@ module _ (due : ℕ) (t : Taker) (n₀ : ℕ) (rs₀ : List Row) (roll₀ : Roll
         rests = rests;
         gains = subst (Gains roll₀ roll) (sym (ap reverse (ap (λ (f : Fill). f .trades) all) ∙ reverse-reverse (u .added))) (u .gains);
         rule = take-follows due t n₀ rs₀ s;
+        fair = take-fair due t n₀ rs₀;
         adds = (let a = take-adds due t n₀ rs₀ [] in omega (arith, a, left));
         few = (let a = take-few due t n₀ rs₀ in omega (arith, a, ap length rests));
       }

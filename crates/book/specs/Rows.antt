@@ -11,6 +11,7 @@ use Rattle.values.specs.declared.side.Side.the-variants.{Buy, Sell}
 use Rattle.values.specs.Sides.{opposite, noMoreAggressive}
 use Rattle.book.specs.declared.row.Row.{Row}
 use Rattle.book.specs.declared.row.Standing.{Standing}
+use Rattle.book.specs.declared.row.Withdrawal.{Withdrawal}
 use Rattle.book.specs.declared.row.Standing.the-variants.{Plain, Held, Quote}
 use Rattle.book.specs.Lists.{found, placed, lacking, every, pairwise}
 
@@ -91,6 +92,10 @@ without n rs = lacking (numbered n) rs
 -- the row with a number
 abbrev pub rowOf : ℕ → List Row → Option Row
 rowOf n rs = found (numbered n) rs
+
+-- what is said of a row that is withdrawn: its number and the size left
+abbrev pub withdrawalOf : Row → Withdrawal
+withdrawalOf r = record { number = r .number; left = r .size }
 
 -- the best row on one side of a series
 abbrev pub bestOf : ℕ → Side → List Row → Option Row

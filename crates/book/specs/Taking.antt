@@ -5,7 +5,7 @@ use mathlib.Core.Logic.{_⊎_}
 use mathlib.Core.List.{List, [], _∷_, reverse}
 use Prim.Native.Nat.{ℕ, zero, suc, _+_, _-_, _≤_, _<_, min}
 use lib.ListN.{length}
-use Rattle.values.specs.Sides.{NoMoreAggressive}
+use Rattle.std.specs.shelf.Lists.{All}
 use Rattle.rolls.specs.Rolls.{Gains}
 use Rattle.rolls.specs.declared.roll.Roll.{Roll}
 use Rattle.book.specs.declared.row.Row.{Row}
@@ -69,6 +69,10 @@ abbrev pub traded : List Trade → ℕ
 traded [] = 0
 traded (e ∷ j) = e .size + traded j
 
+-- a trade of the taker with one of the rows: it is in the taker's reach, and trades at its display price, no more than its size
+abbrev pub Fair : Taker → List Row → Trade → Type 0
+Fair t rs e = (r : Row) × Has r rs × (inReach t r ≡ true) × (0 < e .size) × (e .size ≤ r .size) × (e ≡ tradeWith t (e .size) r)
+
 -- what a call of the taker leaves: `left` of its contracts, the rows, and the roll of trades, which gains the trades in their order
 pub record Took (due : ℕ) (t : Taker) (n left : ℕ) (before after : List Row) (roll₀ roll : Roll Trade) : Type 0 where
   pub leaves : left ≡ take due t n before [] .left
@@ -76,6 +80,7 @@ pub record Took (due : ℕ) (t : Taker) (n left : ℕ) (before after : List Row)
   pub gains : Gains roll₀ roll (reverse (take due t n before [] .trades))
   -- it follows the rule
   pub rule : Takes due t (take due t n before []) n before []
+  pub fair : All (Fair t before) (take due t n before [] .trades)
   -- no contract is made or lost
   pub adds : traded (take due t n before [] .trades) + left ≡ n
   -- each trade but the last takes a row away

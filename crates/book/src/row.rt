@@ -1,6 +1,6 @@
 // What rests in a book, and what comes of trading and withdrawing it.
 ghost use mathlib.Core.Path.{_≡_};
-ghost use Rattle.book.specs.Rows.{onceMoved, renewed};
+ghost use Rattle.book.specs.Rows.{onceMoved, renewed, withdrawalOf};
 use values::side::Price;
 use values::side::Side;
 
@@ -59,6 +59,18 @@ pub struct Trade {
 pub struct Withdrawal {
     pub number: u32,
     pub left: u32,
+}
+
+impl Row {
+    // What the roll of withdrawals says of the row when it is withdrawn.
+    pub fn withdrawal(&self) -> Withdrawal
+        ensures { λ r. ⌜ r ≡ withdrawalOf (now (self .entry)) ⌝ }
+    {
+        Withdrawal {
+            number: self.number,
+            left: self.size,
+        }
+    }
 }
 
 impl Standing {

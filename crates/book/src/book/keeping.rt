@@ -52,7 +52,7 @@ impl Book {
         ensures some { λ r. ⌜ (r ≡ true → sized row ≡ true) ⌝ }
         ensures whole { λ r. ⌜ (length (rows (now (self .entry))) < 256 → every (agrees row) (rows (now (self .entry))) ≡ true → sized row ≡ true → r ≡ true) ⌝ }
     {
-        self.resting.len() < PLACES && row.size > 0 && self.resting.admits(row)
+        self.len() < PLACES && row.size > 0 && self.resting.admits(row)
     }
 
     // Puts a row at its rank, and a held order into the due list.
@@ -71,11 +71,11 @@ impl Book {
         ensures answer { λ r. ⌜ r ≡ rowOf number (rows (now (self .entry))) ⌝ }
         ensures after { λ _. ⌜ rows (now (self .exit)) ≡ without number (rows (now (self .entry))) ⌝ }
     {
-        let found = self.resting.remove(number);
-        if let Some(row) = found {
-            self.awaiting.unlist(number, row.standing);
-        }
-        found
+        let Some(row) = self.resting.remove(number) else {
+            return None;
+        };
+        self.awaiting.unlist(number, row.standing);
+        Some(row)
     }
 
     // The best row on a side of a series.
