@@ -7,7 +7,7 @@ use native.Mathlib.Omega.{arith}
 use borrow.Author.Needs.{needs}
 use lib.ListN.{length, getD, set, take, drop, length-take, length-drop, length-set}
 use Rattle.std.specs.Holes.{inserted, removed}
-use Rattle.std.proofs.shelf.Lists.{getD-set-same, getD-set-other, same-lists, places, getD-take, getD-drop, getD-read, length-take-le}
+use Rattle.std.proofs.shelf.Lists.{getD-set-same, getD-set-other, same-lists, places, getD-take, getD-drop, getD-read, getD-default, length-take-le}
 use Rattle.std.proofs.shelf.Edits.{length-inserted, getD-inserted-below, getD-inserted-at, getD-inserted-above, length-removed, getD-removed-below, getD-removed-above}
 use Rattle.std.proofs.shelf.Tests.{cases-eq, cases-lt, cases-order}
 
@@ -96,3 +96,21 @@ module _ {X : Type 0} where
   closed-rest xs ys at n o =
       same-lists _ _ (simp length-drop (omega (arith, o .long)))
       (λ k d h. getD-drop n ys k d ∙ o .above (n + k) d (omega arith) ∙ sym (getD-drop n xs k d))
+
+  -- a list that has some element
+  element : (xs : List X) (k : ℕ) → k < length xs → X
+  element [] k l = absurd (omega arith)
+  element (x ∷ xs) k l = x
+
+  copied : (ys zs : List X) (from to : ℕ) (l : from < length ys) → ((d : X) → zs ≡ set ys to (getD ys from d)) → (v : X) × (zs ≡ set ys to v) × (v ≡ getD ys from v)
+  copied ys zs from to l e = let d = element ys from l in (getD ys from d, e d, getD-default ys from d (getD ys from d) l)
+
+  pub opened-copy : (xs ys : List X) (k n : ℕ) (zs : List X) → 0 < k → k ≤ n → n < length ys → ((d : X) → zs ≡ set ys k (getD ys (k - 1) d)) → Opened xs ys k n → Opened xs zs (k - 1) n
+  opened-copy xs ys k n zs pos le room e o =
+      let c = copied ys zs (k - 1) k (omega arith) e in
+      subst (λ (l : List X). Opened xs l (k - 1) n) (sym (c .1)) (opened-more xs ys k n (c .0) pos le room (c .2) o)
+
+  pub closed-copy : (xs ys : List X) (at k : ℕ) (zs : List X) → at < k → k < length ys → ((d : X) → zs ≡ set ys (k - 1) (getD ys k d)) → Closed xs ys at k → Closed xs zs at (k + 1)
+  closed-copy xs ys at k zs lt room e o =
+      let c = copied ys zs k (k - 1) room e in
+      subst (λ (l : List X). Closed xs l at (k + 1)) (sym (c .1)) (closed-more xs ys at k (c .0) lt room (c .2) o)

@@ -24,7 +24,8 @@ use Rattle.book.specs.declared.row.Taker.{Taker}
 use Rattle.book.specs.declared.row.Trade.{Trade}
 use Rattle.book.specs.Lists.{found, orElse, every, pairwise}
 use Rattle.book.specs.Rows.{Sound, sameSide, bidFirst, better, precedes, agrees, sized, numbered, standsAt, meets, bestOf, resized, put, cut, settle}
-use Rattle.book.specs.Taking.{inReach, amount, tradeWith, note, Fill, take, Has, BestOf, NoneInReach, Takes, done, trade, traded, Fair, Took}
+use Rattle.book.specs.Trades.{tradeWith}
+use Rattle.book.specs.Taking.{inReach, amount, note, Fill, take, Has, BestOf, NoneInReach, Takes, done, trade, traded, Fair, Took}
 use Rattle.book.proofs.Keeps.{decide, fails, every-weaker, found-none}
 use Rattle.book.proofs.Orders.{agrees-number}
 use Rattle.book.proofs.Settles.{cut-all, cut-part, settle-here, settle-past, length-settle}

@@ -111,6 +111,10 @@ renewed due (Quote m) = Quote m
 abbrev pub resized : ℕ → ℕ → Row → Row
 resized due n r = record { number = r .number; series = r .series; side = r .side; display = r .display; limit = r .limit; size = n; standing = renewed due (r .standing) }
 
+-- what is left of r after q contracts traded
+abbrev pub leftOf : ℕ → ℕ → Row → Option Row
+leftOf due q r = cond (leb (r .size) q) None (Some (resized due (r .size - q) r))
+
 -- r with n contracts left, before rs; a row without size is no row
 abbrev pub put : ℕ → ℕ → Row → List Row → List Row
 put due zero r rs = rs

@@ -11,6 +11,7 @@ use Rattle.rolls.specs.declared.roll.Roll.{Roll}
 use Rattle.book.specs.declared.row.Row.{Row}
 use Rattle.book.specs.declared.row.Taker.{Taker}
 use Rattle.book.specs.declared.row.Trade.{Trade}
+use Rattle.book.specs.Trades.{tradeWith}
 use Rattle.book.specs.Rows.{meets, better, cut, settle}
 
 abbrev pub inReach : Taker → Row → Bool
@@ -19,10 +20,6 @@ inReach t r = meets (t .series) (t .side) (t .reach) r
 -- what a taker of n contracts trades with r
 abbrev pub amount : Taker → ℕ → Row → ℕ
 amount t n r = cond (inReach t r) (min n (r .size)) 0
-
--- q contracts at the display price of the resting row
-abbrev pub tradeWith : Taker → ℕ → Row → Trade
-tradeWith t q r = record { series = r .series; price = r .display; size = q; taker = t .number; resting = r .number }
 
 -- a trade of no contracts is none
 abbrev pub note : ℕ → Trade → List Trade → List Trade

@@ -1,6 +1,8 @@
 // What rests in a book, and what comes of trading and withdrawing it.
 ghost use mathlib.Core.Path.{_≡_};
-ghost use Rattle.book.specs.Rows.{onceMoved, renewed, withdrawalOf};
+ghost use Rattle.values.specs.Sides.{noMoreAggressive};
+ghost use Rattle.book.specs.Rows.{leftOf, onceMoved, renewed, withdrawalOf};
+ghost use Rattle.book.specs.Trades.{tradeWith};
 use values::side::Price;
 use values::side::Side;
 
@@ -62,6 +64,21 @@ pub struct Withdrawal {
 }
 
 impl Row {
+    // What is left of the row after it traded some contracts: nothing, or fewer contracts, and a held order due anew.
+    pub fn after_trade(self, contracts: u32, due: u32) -> Option<Row>
+        ensures { λ r. ⌜ r ≡ leftOf due contracts self ⌝ }
+    {
+        if self.size <= contracts {
+            None
+        } else {
+            Some(Row {
+                size: self.size - contracts,
+                standing: self.standing.renew(due),
+                ..self
+            })
+        }
+    }
+
     // What the roll of withdrawals says of the row when it is withdrawn.
     pub fn withdrawal(&self) -> Withdrawal
         ensures { λ r. ⌜ r ≡ withdrawalOf (now (self .entry)) ⌝ }
@@ -69,6 +86,28 @@ impl Row {
         Withdrawal {
             number: self.number,
             left: self.size,
+        }
+    }
+}
+
+impl Taker {
+    // Whether a price of the contra side is within the reach.
+    pub fn reaches(&self, price: Price) -> bool
+        ensures { λ r. ⌜ r ≡ noMoreAggressive (now (self .entry) .side) price (now (self .entry) .reach) ⌝ }
+    {
+        self.side.no_more_aggressive(price, self.reach)
+    }
+
+    // A trade with a row, at the row's display price.
+    pub fn trade_with(&self, row: Row, contracts: u32) -> Trade
+        ensures { λ r. ⌜ r ≡ tradeWith (now (self .entry)) contracts row ⌝ }
+    {
+        Trade {
+            series: row.series,
+            price: row.display,
+            size: contracts,
+            taker: self.number,
+            resting: row.number,
         }
     }
 }

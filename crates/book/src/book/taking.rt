@@ -20,7 +20,7 @@ impl Book {
         let Some(best) = self.best(taker.series, taker.side.opposite()) else {
             return None;
         };
-        if taker.side.no_more_aggressive(best.display, taker.reach) {
+        if taker.reaches(best.display) {
             Some(best)
         } else {
             None
@@ -39,13 +39,7 @@ impl Book {
                 break;
             };
             let traded = left.min(best.size);
-            trades.push(Trade {
-                series: best.series,
-                price: best.display,
-                size: traded,
-                taker: taker.number,
-                resting: best.number,
-            });
+            trades.push(taker.trade_with(best, traded));
             self.settle(best.number, traded, due);
             left -= traded;
         }

@@ -117,12 +117,12 @@ impl Wanted<Row> for Numbered as NumberedWanted {
 
 // The rows on a side of a series, and all that come after them.
 #[derive(Clone, Copy)]
-struct From {
+struct NotBefore {
     series: u8,
     side: Side,
 }
 
-impl Wanted<Row> for From as FromWanted {
+impl Wanted<Row> for NotBefore as NotBeforeWanted {
     ghost wants = { λ s r. notBefore (s .series) (s .side) r };
 
     fn wants(&self, item: Row) -> bool {
@@ -255,7 +255,7 @@ impl Rows {
     pub fn best(&self, series: u8, side: Side) -> Option<Row>
         ensures { λ r. ⌜ r ≡ bestOf series side (ranked (now (self .entry))) ⌝ }
     {
-        let at = parting_place(&self.slots, self.count, &From { series, side });
+        let at = parting_place(&self.slots, self.count, &NotBefore { series, side });
         if at < self.count {
             let row = self.slots[at];
             if is_at(row, series, side) {
@@ -276,15 +276,14 @@ impl Rows {
         let at = first_place(&self.slots, self.count, &Numbered(number));
         if at < self.count {
             let row = self.slots[at];
-            if row.size <= by {
-                close_place(&mut self.slots, self.count, at);
-                self.count -= 1;
-            } else if by > 0 {
-                self.slots[at] = Row {
-                    size: row.size - by,
-                    standing: row.standing.renew(due),
-                    ..row
-                };
+            if by > 0 {
+                match row.after_trade(by, due) {
+                    Some(left) => self.slots[at] = left,
+                    None => {
+                        close_place(&mut self.slots, self.count, at);
+                        self.count -= 1;
+                    }
+                }
             }
             Some(row)
         } else {

@@ -1,7 +1,7 @@
 use mathlib.Core.Path.{_≡_, sym, ap, _∙_}
 use mathlib.Core.Bool.{Bool}
 use mathlib.Core.List.{List}
-use Prim.Native.Nat.{ℕ, _<_, _+_, _-_, _/_}
+use Prim.Native.Nat.{ℕ, _<_}
 use native.Mathlib.Omega.{arith}
 use lib.ListN.{length, take, getD}
 use Rattle.std.proofs.shelf.Lists.{length-take-le, getD-take}
@@ -22,7 +22,7 @@ loop-low-holds g c =
 pub loop-low-again-then-wants : need.loop-low-again-then-wants
 loop-low-again-then-wants g c =
     let xs = c .args .slots .now in let n = c .args .count in let x = c .index-slots-middle .result in
-    let k = c .loop-low .low + (c .loop-low .high - c .loop-low .low) / 2 in
+    let k = c .midway-middle .result in
     let p = g .W·Wanted .wants (c .args .wanted .now) in
     let long : length (take n xs) ≡ n = length-take-le n xs (c .pre .room) in
     let in′ : k < n = omega arith in
@@ -31,7 +31,7 @@ loop-low-again-then-wants g c =
 pub loop-low-again : need.loop-low-again
 loop-low-again g c =
     let xs = c .args .slots .now in let n = c .args .count in let x = c .index-slots-middle .result in
-    let k = c .loop-low .low + (c .loop-low .high - c .loop-low .low) / 2 in
+    let k = c .midway-middle .result in
     let p = g .W·Wanted .wants (c .args .wanted .now) in
     let long : length (take n xs) ≡ n = length-take-le n xs (c .pre .room) in
     let in′ : k < n = omega arith in

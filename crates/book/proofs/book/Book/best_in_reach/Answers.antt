@@ -14,18 +14,18 @@ returns-in-rest c =
     let t = c .args .taker in
     sym (reach-none t rs (sym (c .in-rest .ensures tt ∙ ap (λ (s : Side). bestOf (t .series) s rs) (c .opposite .ensures))))
 
-pub returns-then-no-more-aggressive : need.returns-then-no-more-aggressive
-returns-then-no-more-aggressive c =
+pub returns-then-reaches : need.returns-then-reaches
+returns-then-reaches c =
     let rs = rows (c .args .self .now) in
     let t = c .args .taker in
     let b = c .in-Some .best in
     sym (reach-best t rs b (c .args .self .now .resting .sound .0) (sym (c .in-Some .ensures tt ∙ ap (λ (s : Side). bestOf (t .series) s rs) (c .opposite .ensures)))
-    ∙ ap (λ (x : Bool). orElse x b None) (sym (c .if-no-more-aggressive .ensures tt)))
+    ∙ ap (λ (x : Bool). orElse x b None) (sym (c .if-reaches .ensures tt)))
 
-pub returns-else-no-more-aggressive : need.returns-else-no-more-aggressive
-returns-else-no-more-aggressive c =
+pub returns-else-reaches : need.returns-else-reaches
+returns-else-reaches c =
     let rs = rows (c .args .self .now) in
     let t = c .args .taker in
     let b = c .in-Some .best in
     sym (reach-best t rs b (c .args .self .now .resting .sound .0) (sym (c .in-Some .ensures tt ∙ ap (λ (s : Side). bestOf (t .series) s rs) (c .opposite .ensures)))
-    ∙ ap (λ (x : Bool). orElse x b None) (sym (c .if-no-more-aggressive .ensures tt)))
+    ∙ ap (λ (x : Bool). orElse x b None) (sym (c .if-reaches .ensures tt)))

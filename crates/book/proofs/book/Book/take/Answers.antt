@@ -5,9 +5,11 @@ use native.Mathlib.Omega.{arith}
 use lib.ListN.{length}
 use Rattle.std.proofs.shelf.Tests.{ltb-true}
 use Rattle.rolls.specs.Rolls.{Gains}
+use Rattle.book.specs.declared.row.Trade.{Trade}
 use Rattle.book.specs.Books.{rows}
 use Rattle.book.specs.Rows.{sized, settle}
-use Rattle.book.specs.Taking.{inReach, tradeWith, take}
+use Rattle.book.specs.Trades.{tradeWith}
+use Rattle.book.specs.Taking.{inReach, take}
 use Rattle.book.proofs.Takes.{Underway, fill, take-nothing, take-none, underway-start, underway-more, underway-end}
 use Rattle.book.proofs.Tied.{found-every, found-less}
 use Rattle.book.proofs.book.Book.take.Needs as need
@@ -37,7 +39,7 @@ loop-left-again c =
     let rs₀ = rows (c .args .self .now) in
     subst (λ (k : ℕ). Underway (c .args .due) t (c .args .size) rs₀ (c .args .trades .now) (n - k) (rows (c .settle .last .self)) (c .push .last .self)) (sym is)
     (underway-more (c .args .due) t (c .args .size) rs₀ (c .args .trades .now) n rs (c .loop-left .trades) (c .loop-left .inv) b (rows (c .settle .last .self)) (c .push .last .self) (omega arith) (c .loop-left .self .resting .sound) (sym (c .in-Some .ensures tt))
-    (subst (λ (k : ℕ). Gains (c .loop-left .trades) (c .push .last .self) (tradeWith t k b ∷ [])) is (c .push .ensures))
+    (subst (λ (e : Trade). Gains (c .loop-left .trades) (c .push .last .self) (e ∷ [])) (c .trade-with .ensures ∙ ap (λ (k : ℕ). tradeWith t k b) is) (c .push .ensures))
     (c .settle .ensures ∙ ap (λ (k : ℕ). settle (c .args .due) k (b .number) rs) is))
 
 pub returns-after-loop-left : need.returns-after-loop-left
