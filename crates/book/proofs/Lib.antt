@@ -1,0 +1,11 @@
+pub mod Shifts
+pub mod Finds
+pub mod Keeps
+pub mod Orders
+pub mod Settles
+pub mod Sound
+pub mod Steps
+pub mod Turns
+pub mod Ties
+pub mod Tied
+pub mod Takes

@@ -1,0 +1,3 @@
+// Rolls: what a call adds, it adds to rows that its caller lent.
+pub mod roll;
+pub mod slots;
