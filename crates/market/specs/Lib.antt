@@ -1,0 +1,11 @@
+pub mod Series
+pub mod Squares
+pub mod States
+pub mod Tests
+pub mod Orderly
+pub mod Nationals
+pub mod Shutouts
+pub mod Listings
+pub mod Calls
+pub mod Widths
+pub mod Markets

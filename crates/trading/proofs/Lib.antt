@@ -1,0 +1,14 @@
+pub mod Sides
+pub mod Faces
+pub mod Resting
+pub mod Timings
+pub mod Volumes
+pub mod Each
+pub mod Served
+pub mod Pulled
+pub mod Entered
+pub mod Advanced
+pub mod Keeping
+pub mod Noted
+pub mod Placing
+pub mod Gone
