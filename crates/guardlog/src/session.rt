@@ -1,6 +1,7 @@
 // A session: the listing while series are listed, then the market.
 use book::row::Trade;
 use book::row::Withdrawal;
+use laws::opening::open_market;
 use market::call::Call;
 use market::listing::Listing;
 use market::market::Market;
@@ -40,7 +41,7 @@ pub struct Session {
 }
 
 fn make_market(listing: Listing) -> RulesMarket {
-    Market::new(listing, ORDER_RULES, QUOTE_RULES, Tape::new())
+    open_market(listing, ORDER_RULES, QUOTE_RULES, Tape::new())
 }
 
 // S once the listing is closed: lists nothing.

@@ -12,6 +12,8 @@ ghost use Rattle.laws.specs.Rolls.{Every-roll-true, Every-run-keeps-true-rows}
 ghost use Rattle.laws.specs.Whole.{Every-run-lawful};
 ghost use Rattle.laws.specs.Widths.{Every-run-approves-widths};
 
+pub mod opening;
+
 // All of the laws below that speak of what is seen of a market, in one statement.
 pub fn every_run_lawful()
     ensures { λ _. ⌜ Every-run-lawful ⌝ }
