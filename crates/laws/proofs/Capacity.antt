@@ -43,7 +43,8 @@ use Rattle.laws.specs.Runs.{Asked, run}
 use Rattle.laws.specs.Capacity.{Every-run-roomy}
 use Rattle.laws.proofs.Enters.{rested-sane}
 use Rattle.laws.proofs.Prices.{none-met}
-use Rattle.laws.proofs.Pulls.{mine, mine-role, pull-in, pull-gone}
+use Rattle.trading.proofs.Gone.{pull-in, pull-gone}
+use Rattle.laws.proofs.Pulls.{mine, mine-role}
 use Rattle.laws.proofs.Steps.{Kept, orderLedger, orderTicket, order-terms, order-start, quoteLedger, quoteTicket, quote-terms, quote-start}
 use Rattle.laws.proofs.Runs.{run-kept}
 use Rattle.laws.proofs.Volumes.{noted-length, take-trades, take-rows, advance-volume, enter-volume, lapse-trades, count-all, pull-volume}

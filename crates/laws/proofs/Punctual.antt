@@ -53,7 +53,7 @@ use Rattle.laws.specs.Moments.{dueIn, dueOf}
 use Rattle.laws.proofs.Keeping.{serve-keeps, pull-keeps, advance-keeps}
 use Rattle.laws.proofs.Enters.{rested-sane}
 use Rattle.laws.proofs.Prices.{none-met}
-use Rattle.laws.proofs.Pulls.{pull-in}
+use Rattle.trading.proofs.Gone.{pull-in}
 use Rattle.laws.proofs.Steps.{Kept, orderLedger, orderTicket, order-terms, order-start, quoteLedger, quoteTicket, quote-terms, quote-start}
 use Rattle.laws.proofs.Notes.{Proper, step-noted}
 use Rattle.laws.proofs.Dated.{DatedAs, at, Dated, serve-dated, pull-dated, moveOn-dated, enter-dated, enterNow-dated}

@@ -55,7 +55,8 @@ use Rattle.laws.proofs.Words.{orElse-true, orElse-false}
 use Rattle.laws.proofs.Ledgers.{Ledger, Welcome, Settled, advance-settled, pull-settled}
 use Rattle.laws.proofs.Enters.{PricedAs, Terms, enter-settled, enterNow-settled}
 use Rattle.laws.proofs.Prices.{passes-less, Orderly, pricing-as, none-met, test-met}
-use Rattle.laws.proofs.Pulls.{mine, mine-role, pull-gone}
+use Rattle.trading.proofs.Gone.{pull-gone}
+use Rattle.laws.proofs.Pulls.{mine, mine-role}
 use Rattle.laws.proofs.Remaps.{ledgerOf, remap, rebase-of}
 
 -- ---- a refused call changes none of the words
