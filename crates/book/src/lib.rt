@@ -2,9 +2,6 @@
 // series lists, clocks or text.
 mod awaiting;
 pub mod book;
-mod hints;
 pub mod places;
 mod resting;
 pub mod row;
-pub mod scope;
-mod sequence;

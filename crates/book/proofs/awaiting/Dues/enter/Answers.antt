@@ -2,28 +2,25 @@ use Rattle.std.proofs.Common.{◌≡◌, length, arith}
 use Rattle.std.proofs.lemmas.List.{length-take-le}
 use Rattle.book.specs.Listings.{waiting}
 use Rattle.book.specs.Dues.{sooner}
-use Rattle.book.proofs.Turns.{turns_entered, parted_turn, as_fields}
+use Rattle.book.proofs.Turns.{turns_entered, as_fields}
 use Rattle.book.proofs.Steps.{at_within, placed_at}
 use Rattle.book.proofs.awaiting.Dues.enter.Goals as goal
-
-pub parting-place-at-requires : goal.parting-place-at-requires
-parting-place-at-requires c = let b = c.args.self.now in record { room = omega arith; parted = parted_turn c.args.due (waiting b) b.turns }
 
 pub open-place-requires : goal.open-place-requires
 open-place-requires c =
     let b = c.args.self.now in
     let long : length (waiting b) ≡ b.count = length-take-le b.count b.slots (omega arith) in
-    record { within = omega (arith, at_within (sooner c.args.due) (waiting b) _ c.parting-place-at.ensures); room = omega arith }
+    record { within = at_within (sooner c.args.due) b.slots b.count _ c.first-place-at.ensures (omega arith); room = omega arith }
 
 pub invariant-of-self : goal.invariant-of-self
 invariant-of-self c =
     let b = c.args.self.now in
     let due = c.args.due in
     let long : length (waiting b) ≡ b.count = length-take-le b.count b.slots (omega arith) in
-    as_fields _ _ _ (omega arith) (omega arith) (placed_at (sooner due) (waiting b) _ c.parting-place-at.ensures _ due c.open-place.ensures.front)
+    as_fields _ _ _ (omega arith) (omega arith) (placed_at (sooner due) b.slots b.count _ c.first-place-at.ensures (omega arith) _ due c.open-place.ensures.front)
     (turns_entered due (waiting b) c.requires.unused b.turns)
 
 pub returns : goal.returns
 returns c =
     let b = c.args.self.now in
-    placed_at (sooner c.args.due) (waiting b) _ c.parting-place-at.ensures _ c.args.due c.open-place.ensures.front
+    placed_at (sooner c.args.due) b.slots b.count _ c.first-place-at.ensures (omega arith) _ c.args.due c.open-place.ensures.front

@@ -1,5 +1,4 @@
-use Rattle.std.proofs.Common.{◌≡◌, length, arith}
-use Rattle.std.proofs.lemmas.List.{length-take-le}
+use Rattle.std.proofs.Common.{arith}
 use Rattle.book.specs.Listings.{waiting}
 use Rattle.book.specs.Dues.{owed}
 use Rattle.book.proofs.Turns.{turns_lacking, single_owed, as_fields}
@@ -9,21 +8,18 @@ use Rattle.book.proofs.awaiting.Dues.remove.Goals as goal
 pub invariant-of-self : goal.invariant-of-self
 invariant-of-self c =
     let b = c.args.self.now in
-    let n = c.args.due.number in
-    let long : length (waiting b) ≡ b.count = length-take-le b.count b.slots (omega arith) in
+    let n = c.args.number in
     as_fields _ _ _ (omega arith) (omega arith)
-    (lacking_at (owed n) (waiting b) _ c.place-at.ensures _ (single_owed n (waiting b) b.turns) (omega arith) c.close-place.ensures.front)
+    (lacking_at (owed n) b.slots b.count _ c.first-place-at.ensures (omega arith) _ (single_owed n (waiting b) b.turns) (omega arith) c.close-place.ensures.front)
     (turns_lacking n (waiting b) b.turns)
 
 pub returns-then-at-self : goal.returns-then-at-self
 returns-then-at-self c =
     let b = c.args.self.now in
-    let n = c.args.due.number in
-    let long : length (waiting b) ≡ b.count = length-take-le b.count b.slots (omega arith) in
-    lacking_at (owed n) (waiting b) _ c.place-at.ensures _ (single_owed n (waiting b) b.turns) (omega arith) c.close-place.ensures.front
+    let n = c.args.number in
+    lacking_at (owed n) b.slots b.count _ c.first-place-at.ensures (omega arith) _ (single_owed n (waiting b) b.turns) (omega arith) c.close-place.ensures.front
 
 pub returns-else-at-self : goal.returns-else-at-self
 returns-else-at-self c =
     let b = c.args.self.now in
-    let long : length (waiting b) ≡ b.count = length-take-le b.count b.slots (omega arith) in
-    nowhere_lacking (owed c.args.due.number) (waiting b) _ c.place-at.ensures (omega arith)
+    nowhere_lacking (owed c.args.number) b.slots b.count _ c.first-place-at.ensures (omega arith) (omega arith)

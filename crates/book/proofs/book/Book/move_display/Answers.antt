@@ -8,8 +8,10 @@ use Rattle.book.specs.declared.row.Row.{Row}
 use Rattle.book.specs.declared.row.Standing.{Standing}
 use Rattle.book.proofs.Keeps.{every_left}
 use Rattle.book.proofs.Tied.{absent_without, found_every, found_less, found_number}
-use Rattle.book.proofs.Sequences.{few_rows}
 use Rattle.book.proofs.book.Book.move_display.Goals as goal
+
+few : (b : Book) → length (rows b) ≤ 256
+few b = let h = b.resting.few in omega (arith, length-take-le b.resting.count b.resting.slots (omega (arith, b.resting.whole)))
 
 -- r at another price, with a standing
 abbrev shown : Row → ℕ → Standing → Row
@@ -27,7 +29,7 @@ insert-requires c =
     subst (λ (k : ℕ). every (λ x. numbered k x || agrees moved x) (rows b) ≡ true) (found_number n (rows b) r f)
     (sym (ap (λ (o : Option Row). may_move_in o c.args.display c.args.due (rows b)) f) ∙ c.requires) in
     record {
-      room = omega (arith, few_rows b.resting.sequence, found_less (numbered n) (rows b) r f, ap length c.in-Some.ensures.after);
+      room = omega (arith, few b, found_less (numbered n) (rows b) r f, ap length c.in-Some.ensures.after);
       fits = subst (λ (x : Row). every (agrees x) (rows c.withdraw.new.self) ≡ true) is (ap (every (agrees (moved_to c.args.display c.args.due r))) c.in-Some.ensures.after ∙ every_left (numbered n) (agrees moved) (rows b) clear);
       some = found_every sized (numbered n) (rows b) r b.resting.sound.2 f;
     }

@@ -1,21 +1,31 @@
+use Rattle.std.proofs.Common.{◌≡◌, length, arith}
+use Rattle.std.proofs.lemmas.List.{length-take-le}
 use Rattle.book.specs.Listings.{ranked}
 use Rattle.book.specs.Rows.{precedes}
-use Rattle.book.proofs.Sound.{sound_insert}
-use Rattle.book.proofs.Steps.{at_within, placed_at, as_sound}
+use Rattle.book.proofs.Sound.{sound_insert, parted_rank}
+use Rattle.book.proofs.Steps.{at_within, placed_at, as_fields}
 use Rattle.book.proofs.resting.Rows.insert.Goals as goal
 
-pub open-slot-requires : goal.open-slot-requires
-open-slot-requires c =
+pub parting-place-at-requires : goal.parting-place-at-requires
+parting-place-at-requires c =
     let b = c.args.self.now in
-    record { within = at_within (precedes c.args.row) (ranked b) _ c.rank-at.ensures; room = c.requires.room }
+    record { room = omega arith; parted = parted_rank c.args.row (ranked b) b.sound }
+
+pub open-place-requires : goal.open-place-requires
+open-place-requires c =
+    let b = c.args.self.now in
+    let long : length (ranked b) ≡ b.count = length-take-le b.count b.slots (omega arith) in
+    record { within = at_within (precedes c.args.row) b.slots b.count _ c.parting-place-at.ensures (omega arith); room = omega arith }
 
 pub invariant-of-self : goal.invariant-of-self
 invariant-of-self c =
     let b = c.args.self.now in
     let row = c.args.row in
-    as_sound _ _ (placed_at (precedes row) (ranked b) _ c.rank-at.ensures _ row c.open-slot.ensures) (sound_insert row (ranked b) c.requires.fits c.requires.some b.sound)
+    let long : length (ranked b) ≡ b.count = length-take-le b.count b.slots (omega arith) in
+    as_fields _ _ _ (omega arith) (omega arith) (placed_at (precedes row) b.slots b.count _ c.parting-place-at.ensures (omega arith) _ row c.open-place.ensures.front)
+    (sound_insert row (ranked b) c.requires.fits c.requires.some b.sound)
 
 pub returns : goal.returns
 returns c =
     let b = c.args.self.now in
-    placed_at (precedes c.args.row) (ranked b) _ c.rank-at.ensures _ c.args.row c.open-slot.ensures
+    placed_at (precedes c.args.row) b.slots b.count _ c.parting-place-at.ensures (omega arith) _ c.args.row c.open-place.ensures.front
