@@ -1,4 +1,6 @@
 // Callers of the book that test first and then act: each shows that what an operation requires can be met.
+#![tactic(auto)]
+
 ghost use Rattle.std.specs.Prelude.{◌≡◌, Bool};
 ghost use Rattle.book.specs.Books.{rows};
 ghost use Rattle.book.specs.Rows.{same_maker};

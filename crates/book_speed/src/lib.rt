@@ -1,4 +1,6 @@
 // Rounds of one withdrawal and one insertion in a book with a number of rows resting, for the benchmark in bench/book.
+#![tactic(auto)]
+
 ghost use Rattle.std.specs.Prelude.{◌≡◌, ◌+◌, ◌<◌, ◌≤◌, length};
 ghost use Rattle.book.specs.Books.{rows};
 ghost use Rattle.book_speed.specs.Tame.{Drawn, Tame};

@@ -1,4 +1,6 @@
 // The prices at the edge.
+#![tactic(auto)]
+
 ghost use Rattle.std.specs.Prelude.{◌≡◌, length};
 ghost use Rattle.edges.specs.Edges.{edges, EdgesHold};
 

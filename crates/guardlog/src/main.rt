@@ -1,5 +1,7 @@
 // Reads lines from standard input or the file that its argument names, and prints after each line what it brought and its answer.
 // It holds one block of input and its answers, however long a line is, and answers every whole line before it waits for more.
+#![tactic(auto)]
+
 ghost use Rattle.std.specs.Prelude.{◌≡◌, ◌<◌, ◌≤◌, length, IfOk};
 
 use crate::help::HELP;

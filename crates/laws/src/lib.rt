@@ -1,5 +1,7 @@
 // The laws over whole runs of a market. Each stands on the contract of a function of its name, so that nothing above this crate is
 // proved unless the law is.
+#![tactic(auto)]
+
 ghost use Rattle.laws.specs.Balances.{EveryRunAddsUp};
 ghost use Rattle.laws.specs.Capacity.{EveryRunRoomy};
 ghost use Rattle.laws.specs.Deals.{EveryRunDealsFairly};

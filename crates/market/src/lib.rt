@@ -1,4 +1,6 @@
 // The market: its listing, its eight calls, and what each answers, changes and adds to the rolls.
+#![tactic(auto)]
+
 pub mod call;
 pub mod listing;
 pub mod market;

@@ -1,5 +1,7 @@
 // Reads lines from standard input, and writes each good line again as it was, and for each broken one the word `shape`.
 // It holds one block of input and its answers, however long a line is, and answers every whole line before it waits for more.
+#![tactic(auto)]
+
 ghost use Rattle.std.specs.Prelude.{◌≡◌, ◌<◌, ◌≤◌, ◌++◌, length, IfOk, OnOk};
 ghost use Rattle.relines.specs.Answers.{Answers, word};
 

@@ -1,4 +1,6 @@
 // Sources of reference prices: one for each of the sixteen classes.
+#![tactic(auto)]
+
 ghost use Rattle.std.specs.Prelude.{◌≡◌, Bool, List, length};
 ghost use Rattle.values.specs.declared.reference.Reference.{Reference};
 ghost use Rattle.sources.specs.Sources.{reference_of, told};

@@ -1,4 +1,6 @@
 // What happens to the rows of a book within a call: an order or quote enters, held orders are served and moved, rows are withdrawn.
+#![tactic(auto)]
+
 pub mod advancing;
 pub mod entering;
 pub mod floor;

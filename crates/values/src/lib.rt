@@ -1,5 +1,7 @@
 // The values that the rest of the market speaks of: sides and prices, the national best bid and offer, reference prices and
 // their events, the words of an order, and the table of refusals.
+#![tactic(auto)]
+
 pub mod nbbo;
 pub mod order;
 pub mod reference;

@@ -1,2 +1,4 @@
 // Reading: the line that the bytes say, if they have one of the forms.
+#![tactic(auto)]
+
 pub mod read;

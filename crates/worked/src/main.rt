@@ -1,5 +1,7 @@
 // Asks the real code the prices at the edge and the published examples of the rules, and prints for each what was asked and
 // what was answered.
+#![tactic(auto)]
+
 use edges::prices_at_the_edge;
 use std::io;
 
