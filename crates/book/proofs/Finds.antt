@@ -1,7 +1,7 @@
 -- The steps of a loop that looks for the first place, one by one or by halving.
 use Rattle.std.proofs.Common.{◌≡◌, ℕ, zero, suc, ◌+◌, ◌-◌, ◌<◌, ◌≤◌, Bool, true, false, cond, not, ◌&&◌, ◌||◌, List, [], ◌∷◌, ◌++◌, length, get_or, drop, sym, refl, ap, ◌∙◌, arith}
 use Rattle.std.proofs.lemmas.List.{at_drop_more, at_drop_all}
-use Rattle.std.proofs.lemmas.Bool.{cond_true, cond-false, and_parts, both_ways}
+use Rattle.std.proofs.lemmas.Bool.{cond-true, cond-false, and_parts, both_ways}
 use Rattle.book.specs.Lists.{first, every, pairwise, parted}
 
 module _ {X : Type 0} (p : X → Bool) (xs : List X) (k : ℕ) (d : X) where
@@ -14,7 +14,7 @@ module _ {X : Type 0} (p : X → Bool) (xs : List X) (k : ℕ) (d : X) where
   pub first_here : k < length xs → p (get_or xs k d) ≡ true → first p xs ≡ first p (drop k xs) + k → k ≡ first p xs
   first_here l yes' sofar =
       let step : first p (drop k xs) ≡ cond (p (get_or xs k d)) 0 (suc (first p (drop (k + 1) xs))) = at_drop_more (first p) xs k d l in
-      let one = step ∙ cond_true _ 0 _ yes' in
+      let one = step ∙ cond-true _ 0 _ yes' in
       omega arith
 
 pub first_nowhere : {X : Type 0} (p : X → Bool) (xs : List X) (k : ℕ) → length xs ≤ k → first p xs ≡ first p (drop k xs) + k → k ≡ first p xs

@@ -1,7 +1,7 @@
 -- What a search's place, an element put there and elements left out leave of a list.
 use Rattle.std.proofs.Common.{◌≡◌, ℕ, zero, suc, ◌+◌, ◌-◌, ◌<◌, ◌≤◌, Bool, true, false, cond, not, ◌&&◌, ◌||◌, eqb, List, [], ◌∷◌, ◌++◌, length, get_or, take, drop, set, Some, None, Option, sym, refl, ap, ◌∙◌, subst, arith}
 use Rattle.std.specs.List.{insert, remove}
-use Rattle.std.proofs.lemmas.Bool.{and_parts, and_from, cond_true, cond-false, both_ways}
+use Rattle.std.proofs.lemmas.Bool.{and_parts, and_from, cond-true, cond-false, both_ways}
 use Rattle.std.proofs.lemmas.Bool.Decides.{nat_tests}
 use Rattle.book.specs.Lists.{first, found, or_else, placed, lacking, every, pairwise, parted, head}
 
@@ -111,7 +111,7 @@ module _ {X : Type 0} (p : X → Bool) where
   lacking_fails [] = refl
   lacking_fails (x ∷ xs) =
       decide (p x)
-      (λ e. ap (every (fails p)) (cond_true _ _ _ e) ∙ lacking_fails xs)
+      (λ e. ap (every (fails p)) (cond-true _ _ _ e) ∙ lacking_fails xs)
       (λ e. ap (every (fails p)) (cond-false _ _ _ e) ∙ and_from _ _ (ap not e) (lacking_fails xs))
 
   pub length_lacking : (xs : List X) → length (lacking p xs) ≤ length xs
@@ -177,5 +177,5 @@ every_left p q [] h = refl
 every_left p q (x ∷ xs) h =
     let a = and_parts (p x || q x) _ h in
     decide (p x)
-    (λ e. ap (every q) (cond_true _ _ _ e) ∙ every_left p q xs a.1)
+    (λ e. ap (every q) (cond-true _ _ _ e) ∙ every_left p q xs a.1)
     (λ e. ap (every q) (cond-false _ _ _ e) ∙ and_from _ _ (sym (ap (λ t. t || q x) e) ∙ a.0) (every_left p q xs a.1))

@@ -1,7 +1,7 @@
 -- Contracts taken off one row.
 use Rattle.std.proofs.Common.{◌≡◌, ℕ, zero, suc, ◌+◌, ◌-◌, ◌<◌, ◌≤◌, Bool, true, false, cond, not, ◌&&◌, ◌||◌, eqb, ltb, leb, List, [], ◌∷◌, length, get_or, take, set, sym, refl, ap, ◌∙◌, subst, arith}
 use Rattle.std.specs.List.{remove}
-use Rattle.std.proofs.lemmas.Bool.{and_parts, and_from, cond_true, cond-false, cond_both, both_ways, ltb-true, lt-ltb}
+use Rattle.std.proofs.lemmas.Bool.{and_parts, and_from, cond-true, cond-false, cond_both, both_ways, ltb-true, lt-ltb}
 use Rattle.book.specs.declared.row.Row.{Row}
 use Rattle.book.specs.declared.row.Standing.{Standing}
 use Rattle.book.specs.declared.row.Standing.TheVariants.{Plain, Held, Quote}
@@ -27,7 +27,7 @@ cut_part due (suc q) r rs l h = put_some due (r.size - suc q) r rs (omega arith)
 
 pub settle_here : (due q n : ℕ) (r : Row) (rs : List Row) → numbered n r ≡ true → settle due q n (r ∷ rs) ≡ cut due q r rs
 unfolding settle
-settle_here due q n r rs e = cond_true _ _ _ e
+settle_here due q n r rs e = cond-true _ _ _ e
 
 pub settle_past : (due q n : ℕ) (r : Row) (rs : List Row) → numbered n r ≡ false → settle due q n (r ∷ rs) ≡ r ∷ settle due q n rs
 unfolding settle
@@ -44,7 +44,7 @@ pub settle_nothing : (due n : ℕ) (rs : List Row) → settle due 0 n rs ≡ rs
 unfolding settle
 settle_nothing due n [] = refl
 settle_nothing due n (r ∷ rs) =
-    decide (numbered n r) (λ e. cond_true _ _ _ e) (λ e. cond-false _ _ _ e ∙ ap (λ xs. r ∷ xs) (settle_nothing due n rs))
+    decide (numbered n r) (λ e. cond-true _ _ _ e) (λ e. cond-false _ _ _ e ∙ ap (λ xs. r ∷ xs) (settle_nothing due n rs))
 
 -- at the place of the row
 pub settle_gone : (due q n : ℕ) (rs : List Row) (d : Row) → first (numbered n) rs < length rs → 0 < q → (get_or rs (first (numbered n) rs) d).size ≤ q → remove rs (first (numbered n) rs) ≡ settle due q n rs

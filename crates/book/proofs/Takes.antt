@@ -2,7 +2,7 @@
 use Rattle.std.proofs.Common.{◌≡◌, ℕ, zero, suc, ◌+◌, ◌-◌, ◌<◌, ◌≤◌, min, Bool, true, false, cond, not, ◌&&◌, ◌||◌, eqb, ltb, leb, ◌⊎◌, List, [], ◌∷◌, ◌++◌, reverse, length, Some, None, Option, sym, refl, ap, ◌∙◌, subst, inl, inr, ⊎_elim, arith}
 use Rattle.std.specs.List.{AllByRecursion as All}
 use Rattle.std.proofs.lemmas.List.{reverse-append, reverse-reverse, append_assoc}
-use Rattle.std.proofs.lemmas.Bool.{and_parts, and_from, and_left, cond_true, cond-false, cond_both, both_ways, ltb-true, eq-eqb, leb-true, leb-false}
+use Rattle.std.proofs.lemmas.Bool.{and_parts, and_from, and_left, cond-true, cond-false, cond_both, both_ways, ltb-true, eq-eqb, leb-true, leb-false}
 use Rattle.std.proofs.lemmas.Bool.Decides.{nat_tests}
 use Rattle.values.specs.declared.side.Side.{Side}
 use Rattle.values.specs.declared.side.Side.TheVariants.{Buy, Sell}
@@ -175,7 +175,7 @@ take_step due t n (x ∷ xs) j b p all sizes e =
     here : in_reach t x ≡ true → 0 < x.size → take due t n (x ∷ xs) j ≡ take due t (n - min n x.size) (settle due (min n x.size) x.number (x ∷ xs)) (trade_with t (min n x.size) x ∷ j)
     here s some =
         let q = min n x.size in
-        let is-q : amount t n x ≡ q = cond_true _ _ _ s in
+        let is-q : amount t n x ≡ q = cond-true _ _ _ s in
         let pos : 0 < q = omega arith in
         let j' = trade_with t q x ∷ j in
         let f = take due t (n - q) xs j' in

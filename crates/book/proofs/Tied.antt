@@ -1,6 +1,6 @@
 -- The tie between the rows and their due list, kept by each change of a book.
 use Rattle.std.proofs.Common.{◌≡◌, ℕ, suc, ◌<◌, ◌≤◌, Bool, true, false, not, ◌&&◌, eqb, List, [], ◌∷◌, length, Some, None, Option, sym, refl, ap, ◌∙◌, subst, arith}
-use Rattle.std.proofs.lemmas.Bool.{and_parts, and_from, cond_true, cond-false, eqb-true}
+use Rattle.std.proofs.lemmas.Bool.{and_parts, and_from, cond-true, cond-false, eqb-true}
 use Rattle.std.proofs.lemmas.Bool.Decides.{nat_tests}
 use Rattle.book.specs.declared.row.Row.{Row}
 use Rattle.book.specs.declared.row.Due.{Due}
@@ -103,7 +103,7 @@ unfolding found lacking
 found_less p [] x e = let z : ◌≡◌ {A = ℕ} 0 1 = cc in absurd (omega arith)
 found_less p (y ∷ ys) x e =
     decide (p y)
-    (λ t. omega (arith, ap length (cond_true (p y) (lacking p ys) (y ∷ lacking p ys) t), length_lacking p ys))
+    (λ t. omega (arith, ap length (cond-true (p y) (lacking p ys) (y ∷ lacking p ys) t), length_lacking p ys))
     (λ t. omega (arith, ap length (cond-false (p y) (lacking p ys) (y ∷ lacking p ys) t), found_less p ys x (sym (ap (λ b. or_else b y (found p ys)) t) ∙ e)))
 
 pub found_number : (n : ℕ) (rs : List Row) (r : Row) → row_of n rs ≡ Some r → r.number ≡ n

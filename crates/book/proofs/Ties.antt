@@ -1,6 +1,6 @@
 -- The due list of the rows, through each change of them.
 use Rattle.std.proofs.Common.{◌≡◌, ℕ, zero, suc, ◌+◌, ◌-◌, ◌<◌, ◌≤◌, Bool, true, false, cond, not, ◌&&◌, ◌||◌, eqb, ltb, List, [], ◌∷◌, length, Some, None, Option, sym, refl, ap, ◌∙◌, subst, arith}
-use Rattle.std.proofs.lemmas.Bool.{and_parts, and_from, cond_true, cond-false, eqb-true, eq-eqb, both_ways, not-true}
+use Rattle.std.proofs.lemmas.Bool.{and_parts, and_from, cond-true, cond-false, eqb-true, eq-eqb, both_ways, not-true}
 use Rattle.std.proofs.lemmas.Bool.Decides.{nat_tests}
 use Rattle.book.specs.declared.row.Row.{Row}
 use Rattle.book.specs.declared.row.Due.{Due}
@@ -41,7 +41,7 @@ unfolding placed
 unfolded d e ds = refl
 
 enter_first : (d e : Due) (ds : List Due) → sooner d e ≡ true → entered d (e ∷ ds) ≡ d ∷ (e ∷ ds)
-enter_first d e ds h = unfolded d e ds ∙ cond_true _ _ _ h
+enter_first d e ds h = unfolded d e ds ∙ cond-true _ _ _ h
 
 enter_later : (d e : Due) (ds : List Due) → sooner d e ≡ false → entered d (e ∷ ds) ≡ e ∷ entered d ds
 enter_later d e ds h = unfolded d e ds ∙ cond-false _ _ _ h
@@ -90,7 +90,7 @@ due_insert row [] h = refl
 due_insert row (r ∷ rs) h =
     let a = and_parts (agrees row r) _ h in
     decide (precedes row r)
-    (λ e. ap due_list (cond_true _ _ _ e))
+    (λ e. ap due_list (cond-true _ _ _ e))
     (λ e. ap due_list (cond-false _ _ _ e) ∙ ap (listed r.standing r.number) (due_insert row rs a.1) ∙ sym (listed_swap row.standing r.standing row.number r.number (agrees_number row r a.0) (due_list rs)))
 
 -- ---- what the due list of sound rows keeps
@@ -141,10 +141,10 @@ enter_lacking n d out [] turn = cond-false _ _ _ out
 enter_lacking n d out (e ∷ ds) turn =
     let a = and_parts (every (sooner e) ds) _ turn in
     decide (sooner d e)
-    (λ s. ap (lacking (owed n)) (cond_true _ _ _ s) ∙ cond-false _ _ _ out ∙ front s (owed n e) a.0)
+    (λ s. ap (lacking (owed n)) (cond-true _ _ _ s) ∙ cond-false _ _ _ out ∙ front s (owed n e) a.0)
     (λ s. ap (lacking (owed n)) (cond-false _ _ _ s)
     ∙ decide (owed n e)
-    (λ g. cond_true _ _ _ g ∙ enter_lacking n d out ds a.1 ∙ sym (ap (entered d) (cond_true _ _ _ g)))
+    (λ g. cond-true _ _ _ g ∙ enter_lacking n d out ds a.1 ∙ sym (ap (entered d) (cond-true _ _ _ g)))
     (λ g. cond-false _ _ _ g ∙ ap (λ (xs : List Due). e ∷ xs) (enter_lacking n d out ds a.1) ∙ sym (ap (entered d) (cond-false _ _ _ g) ∙ enter_later d e (lacking (owed n) ds) s)))
   where
     -- d is sooner than all that is left
@@ -170,10 +170,10 @@ listed_lacking (Quote x) m n h ds t = refl
 
 enter_gone : (n : ℕ) (d : Due) → owed n d ≡ true → (ds : List Due) → lacking (owed n) (entered d ds) ≡ lacking (owed n) ds
 unfolding placed lacking
-enter_gone n d is [] = cond_true _ _ _ is
+enter_gone n d is [] = cond-true _ _ _ is
 enter_gone n d is (e ∷ ds) =
     decide (sooner d e)
-    (λ s. ap (lacking (owed n)) (cond_true _ _ _ s) ∙ cond_true _ _ _ is)
+    (λ s. ap (lacking (owed n)) (cond-true _ _ _ s) ∙ cond-true _ _ _ is)
     (λ s. ap (lacking (owed n)) (cond-false _ _ _ s) ∙ ap (λ (xs : List Due). cond (owed n e) xs (e ∷ xs)) (enter_gone n d is ds))
 
 listed_gone : (s : Standing) (m n : ℕ) → eqb m n ≡ true → (ds : List Due) → lacking (owed n) (listed s m ds) ≡ lacking (owed n) ds
@@ -188,7 +188,7 @@ due_without n (r ∷ rs) h =
     let a = and_parts (every (agrees r) rs) _ h in
     let rest = due_without n rs a.1 in
     decide (numbered n r)
-    (λ e. ap due_list (cond_true _ _ _ e) ∙ rest ∙ sym (listed_gone r.standing r.number n e (due_list rs)))
+    (λ e. ap due_list (cond-true _ _ _ e) ∙ rest ∙ sym (listed_gone r.standing r.number n e (due_list rs)))
     (λ e. ap due_list (cond-false _ _ _ e) ∙ ap (listed r.standing r.number) rest ∙ sym (listed_lacking r.standing r.number n e (due_list rs) (due_turns rs a.1).0))
 
 -- no entry has a number that no row has
@@ -233,7 +233,7 @@ due_gone n r (x ∷ rs) h f =
     decide (numbered n x)
     (λ e.
     let none = no_other n x rs e a.0 in
-    ap due_list (cond_true _ _ _ e) ∙ ap due_list (lacking_none (numbered n) rs none)
+    ap due_list (cond-true _ _ _ e) ∙ ap due_list (lacking_none (numbered n) rs none)
     ∙ subst (λ (y : Row). due_list rs ≡ unlisted y.standing n (listed x.standing x.number (due_list rs))) (found_head n x r rs e f)
     (sym (unlisted_is x.standing x.number n e (due_list rs) (due_none n rs none))))
     (λ e. ap due_list (cond-false _ _ _ e) ∙ ap (listed x.standing x.number) (due_gone n r rs a.1 (found_tail n x r rs e f))
@@ -246,7 +246,7 @@ settle_all due q n r [] h f p l = refl
 settle_all due q n r (x ∷ rs) h f p l =
     let a = and_parts (every (agrees x) rs) _ h in
     decide (numbered n x)
-    (λ e. cond_true _ _ _ e ∙ cut_all due q x rs p (subst (λ (y : Row). y.size ≤ q) (sym (found_head n x r rs e f)) l) ∙ sym (lacking_none (numbered n) rs (no_other n x rs e a.0)) ∙ sym (cond_true _ _ _ e))
+    (λ e. cond-true _ _ _ e ∙ cut_all due q x rs p (subst (λ (y : Row). y.size ≤ q) (sym (found_head n x r rs e f)) l) ∙ sym (lacking_none (numbered n) rs (no_other n x rs e a.0)) ∙ sym (cond-true _ _ _ e))
     (λ e. cond-false _ _ _ e ∙ ap (λ (xs : List Row). x ∷ xs) (settle_all due q n r rs a.1 (found_tail n x r rs e f) p l) ∙ sym (cond-false _ _ _ e))
 
 -- the entry of a row part of which is traded
@@ -260,7 +260,7 @@ due_part due q n r (x ∷ rs) h f p l =
     let none = no_other n x rs e a.0 in
     let is = found_head n x r rs e f in
     let gone = unlisted_is x.standing x.number n e (due_list rs) (due_none n rs none) in
-    ap due_list (cond_true _ _ _ e) ∙ ap due_list (cut_part due q x rs p (subst (λ (y : Row). q < y.size) (sym is) l))
+    ap due_list (cond-true _ _ _ e) ∙ ap due_list (cut_part due q x rs p (subst (λ (y : Row). q < y.size) (sym is) l))
     ∙ ap (λ (m : ℕ). listed (renewed due x.standing) m (due_list rs)) (eqb-true x.number n e)
     ∙ subst (λ (y : Row). listed (renewed due x.standing) n (due_list rs) ≡ listed (renewed due y.standing) n (unlisted y.standing n (listed x.standing x.number (due_list rs)))) is
     (ap (listed (renewed due x.standing) n) (sym gone)))

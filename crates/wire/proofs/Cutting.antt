@@ -1,6 +1,6 @@
 -- Every run of a splitter answers the lines of its input.
 use Rattle.std.proofs.Common.{◌≡◌, ℕ, suc, ◌+◌, ◌<◌, ◌≤◌, Bool, true, false, cond, ◌||◌, eqb, ltb, leb, List, [], ◌∷◌, ◌++◌, length, take, drop, Some, None, Option, sym, refl, ap, ◌∙◌, subst, ⊎_elim, append_assoc, append-nil, add-one, arith, length-append}
-use Rattle.std.proofs.lemmas.Bool.{cases_Bool, cond_true, cond-false, le-leb, lt-leb, leb-true, leb-false}
+use Rattle.std.proofs.lemmas.Bool.{cases_Bool, cond-true, cond-false, le-leb, lt-leb, leb-true, leb-false}
 use Rattle.std.specs.Option.{option_map}
 use Rattle.wire.specs.Splitting.{Item, ended, unended, lines_from, newline_at, items, left, goes_on, at_end, Move, feed, step, input, answered, Spent, AnswersTheLines}
 
@@ -17,14 +17,14 @@ goes : (begun : List ℕ) (b : ℕ) (s : List ℕ) → eqb b 10 ≡ false → li
 goes begun b s e = cond-false _ _ _ e
 
 ends : (begun : List ℕ) (b : ℕ) (s : List ℕ) → eqb b 10 ≡ true → lines_from begun (b ∷ s) ≡ ended (begun ++ (b ∷ [])) ∷ lines_from [] s
-ends begun b s e = cond_true _ _ _ e
+ends begun b s e = cond-true _ _ _ e
 
 -- with no newline in s, the line that has begun goes on through it
 pub through : (s begun later : List ℕ) → newline_at s ≡ None → lines_from begun (s ++ later) ≡ lines_from (begun ++ s) later
 through [] begun later e = ap (λ l. lines_from l later) (sym (append-nil begun))
 through (b ∷ s) begun later e =
     ⊎_elim
-    (λ yes'. let is : ◌≡◌ {A = Option ℕ} (Some 0) None = sym (cond_true (eqb b 10) _ _ yes') ∙ e in let z : ◌≡◌ {A = ℕ} 0 1 = cc in absurd (omega arith))
+    (λ yes'. let is : ◌≡◌ {A = Option ℕ} (Some 0) None = sym (cond-true (eqb b 10) _ _ yes') ∙ e in let z : ◌≡◌ {A = ℕ} 0 1 = cc in absurd (omega arith))
     (λ no'.
     let rest = later_none (newline_at s) (sym (cond-false (eqb b 10) _ _ no') ∙ e) in
     goes begun b (s ++ later) no' ∙ through s (begun ++ (b ∷ [])) later rest ∙ ap (λ l. lines_from l later) (append_assoc begun (b ∷ []) s))
@@ -36,7 +36,7 @@ to_newline [] begun later at e = let z : ◌≡◌ {A = ℕ} 0 1 = cc in absurd 
 to_newline (b ∷ s) begun later at e =
     ⊎_elim
     (λ yes'.
-    let is : ◌≡◌ {A = Option ℕ} (Some 0) (Some at) = sym (cond_true (eqb b 10) _ _ yes') ∙ e in
+    let is : ◌≡◌ {A = Option ℕ} (Some 0) (Some at) = sym (cond-true (eqb b 10) _ _ yes') ∙ e in
     let zero' : 0 ≡ at = cc in
     subst (λ n. lines_from begun (b ∷ (s ++ later)) ≡ ended (begun ++ take (n + 1) (b ∷ s)) ∷ lines_from [] (drop (n + 1) (b ∷ s) ++ later)) zero' (ends begun b (s ++ later) yes'))
     (λ no'.
@@ -67,7 +67,7 @@ last true [] s h = absurd (omega arith)
 last true (b ∷ l) s h = refl
 last false begun [] h = ap (λ l. unended (l ++ [])) (sym h)
 last false begun (b ∷ s) h =
-    cond_true (ltb 0 (length (b ∷ s))) _ _ (le-leb 1 (length (b ∷ s)) (omega arith)) ∙ ap (λ l. unended (l ++ (b ∷ s))) (sym h)
+    cond-true (ltb 0 (length (b ∷ s))) _ _ (le-leb 1 (length (b ∷ s)) (omega arith)) ∙ ap (λ l. unended (l ++ (b ∷ s))) (sym h)
 
 -- the line that a newline ends
 judged : (passing : Bool) (begun s : List ℕ) (at : ℕ) → Begun passing begun → newline_at s ≡ Some at → cond passing None (ended (take (at + 1) s)) ≡ ended (begun ++ take (at + 1) s)

@@ -1,7 +1,7 @@
 -- The first newline.
 use Rattle.std.proofs.Common.{◌≡◌, ℕ, ◌+◌, ◌<◌, ◌≤◌, eqb, List, [], ◌∷◌, length, get_or, drop, Some, None, Option, sym, refl, ap, ◌∙◌, arith}
 use Rattle.std.proofs.lemmas.List.{at_drop_more, at_drop_all}
-use Rattle.std.proofs.lemmas.Bool.{eq-eqb, ne_eqb, cond_true, cond-false}
+use Rattle.std.proofs.lemmas.Bool.{eq-eqb, ne_eqb, cond-true, cond-false}
 use Rattle.std.specs.Option.{option_map}
 use Rattle.wire.specs.Splitting.{newline_at}
 
@@ -18,7 +18,7 @@ here s i lt past is =
     let e : 0 + i ≡ i = omega arith in
     sym
     (past
-    ∙ ap (option_map (λ k. k + i)) (at_drop_more newline_at s i 0 lt ∙ cond_true _ _ _ (eq-eqb (get_or s i 0) 10 is))
+    ∙ ap (option_map (λ k. k + i)) (at_drop_more newline_at s i 0 lt ∙ cond-true _ _ _ (eq-eqb (get_or s i 0) 10 is))
     ∙ ap (λ n. Some n) e)
 
 pub onward : (s : List ℕ) (i : ℕ) → i < length s → Past s i → (get_or s i 0 ≡ 10 → ⊥) → Past s (i + 1)

@@ -8,7 +8,7 @@ use Rattle.std.proofs.lemmas.Str.Parse.{IsNumeralModel, numerals_by_value, tells
 use Rattle.std.proofs.lemmas.Fmt.{decimal-digits_value, decimal_is_IsNumeral, length-decimal-le, decimal_nonempty, first_decimal, decimal_digit, decimal_injective}
 use Rattle.std.proofs.lemmas.Str.{digit_value_digit}
 use Rattle.std.proofs.lemmas.List.{length-take-le, get_or_at, get_or_append_left, get_or-take, take_at, drop_at, take-append-drop}
-use Rattle.std.proofs.lemmas.Bool.{cases_lt, cases_order, cases_Bool, ltb-true, lt-ltb, cond_true, cond-false}
+use Rattle.std.proofs.lemmas.Bool.{cases_lt, cases_order, cases_Bool, ltb-true, lt-ltb, cond-true, cond-false}
 use Rattle.wire_format.specs.Format.{Text, glued, count}
 use Rattle.wire_read.specs.Fields.{Front, Number, Run, Count}
 
@@ -30,7 +30,7 @@ one_more s i n lt d is = (
 
 -- what is written of a count that is written
 pub count_some : (b : ℕ) → b < 10 ^ 9 → count b ≡ Some (decimal b)
-count_some b h = cond_true _ _ _ (lt-ltb b (10 ^ 9) h)
+count_some b h = cond-true _ _ _ (lt-ltb b (10 ^ 9) h)
 
 pub glued_count : (end b : ℕ) (t s : List ℕ) → glued end (count b) (Some t) ≡ Some s → (b < 10 ^ 9) × (decimal b ++ (end ∷ t) ≡ s)
 glued_count end b t s e =

@@ -20,4 +20,4 @@ pub loop-due-preserved : goal.loop-due-preserved
 loop-due-preserved c = let i = c.loop-due.invariant in (i.0, i.1, i.2, advancing_next i.3 i.1 i.2 c.in-Some.due _ _ (sym c.in-Some.ensures) c.turn.ensures.place c.turn.ensures.did)
 
 pub returns : goal.returns
-returns c = let i = c.loop-due.invariant in advancing_ends i.3 i.1 i.2 (sym c.in-default.ensures)
+returns c = let i = c.loop-due.invariant in advancing_ends i.3 i.1 i.2 (sym c.in_default.ensures)

@@ -6,14 +6,14 @@ use Rattle.trading.specs.Desks.{highest}
 use Rattle.trading.proofs.Advanced.{moved_length, moved_highest, turned}
 use Rattle.trading.proofs.advancing.turn.Goals as goal
 
-pub move-display-requires : goal.move-display-requires
-move-display-requires c =
+pub move_display-requires : goal.move_display-requires
+move_display-requires c =
     subst (λ (p : ℕ). may_move c.in-Some.row.number p (c.args.due.moment + 1000) (rows c.args.book.now) ≡ true) (sym c.onward-display.ensures)
     (c.requires.clear c.in-Some.row c.in-Held.collar c.in-Held.due (sym c.in-Some.ensures) c.in-Held.is)
 
 pub serve-requires : goal.serve-requires
 serve-requires c =
-    let moved = c.move-display.ensures in
+    let moved = c.move_display.ensures in
     let few = moved_length c.in-Some.row.number c.onward-display.result (c.args.due.moment + 1000) (rows c.args.book.now) in
     let high = moved_highest c.in-Some.row.number c.onward-display.result (c.args.due.moment + 1000) (rows c.args.book.now) in
     let n = ap length moved in
@@ -25,5 +25,5 @@ serve-requires c =
 pub returns : goal.returns
 returns c = record {
   place = c.serve.ensures.place;
-  did = turned c.args.clock c.args.due.moment c.args.due.number _ _ _ _ _ c.in-Some.row c.in-Held.collar c.in-Held.due c.onward-display.result (sym c.in-Some.ensures) c.in-Held.is c.onward-display.ensures c.move-display.ensures c.serve.ensures.did;
+  did = turned c.args.clock c.args.due.moment c.args.due.number _ _ _ _ _ c.in-Some.row c.in-Held.collar c.in-Held.due c.onward-display.result (sym c.in-Some.ensures) c.in-Held.is c.onward-display.ensures c.move_display.ensures c.serve.ensures.did;
 }

@@ -3,5 +3,5 @@ use Rattle.trading.proofs.entering.enter_now.Goals as goal
 
 pub returns : goal.returns
 returns c =
-    let did = entered_now c.args.due c.args.ticket _ c.taker-of.ensures _ _ c.args.trades.now c.take-left.new.trades c.args.withdrawals.now c.lapse.new.withdrawals _ c.take-left.ensures c.lapse.ensures in
+    let did = entered_now c.args.due c.args.ticket _ c.taker_of.ensures _ _ c.args.trades.now c.take-left.new.trades c.args.withdrawals.now c.lapse.new.withdrawals _ c.take-left.ensures c.lapse.ensures in
     record { trades = did.0; withdrawals = did.1 }

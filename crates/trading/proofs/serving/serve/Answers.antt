@@ -12,10 +12,10 @@ pub loop-row-smaller : goal.loop-row-smaller
 loop-row-smaller c = omega (arith, serving_number _ _ c.loop-row.invariant c.loop-row.book.resting.sound c.in-Some.row (sym c.in-Some.ensures))
 
 pub loop-row-preserved : goal.loop-row-preserved
-loop-row-preserved c = serving_next _ _ c.loop-row.invariant c.loop-row.book.resting.sound c.in-Some.row _ _ (sym c.in-Some.ensures) c.serve-if-held.ensures
+loop-row-preserved c = serving_next _ _ c.loop-row.invariant c.loop-row.book.resting.sound c.in-Some.row _ _ (sym c.in-Some.ensures) c.serve_if_held.ensures
 
 pub returns : goal.returns
 returns c = record {
   place = c.loop-row.invariant.places;
-  did = serving_ends _ _ c.loop-row.invariant c.loop-row.book.resting.sound (sym c.in-default.ensures);
+  did = serving_ends _ _ c.loop-row.invariant c.loop-row.book.resting.sound (sym c.in_default.ensures);
 }

@@ -18,4 +18,4 @@ pub loop-row-preserved : goal.loop-row-preserved
 loop-row-preserved g c = pulling_next _ c.loop-row.invariant c.loop-row.book.resting.sound c.in-Some.row _ _ (sym c.in-Some.ensures) c.withdraw.ensures.after c.push.ensures
 
 pub returns : goal.returns
-returns g c = pulling_ends _ c.loop-row.invariant c.loop-row.book.resting.sound (sym c.in-default.ensures)
+returns g c = pulling_ends _ c.loop-row.invariant c.loop-row.book.resting.sound (sym c.in_default.ensures)

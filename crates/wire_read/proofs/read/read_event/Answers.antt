@@ -16,4 +16,4 @@ returns-in-82 c = let e = two c.args.bytes.now 82 10 (search rules) (omega arith
 pub returns-in-9 : goal.returns-in-9
 returns-in-9 c =
     let e = opens c.args.bytes.now (get_or c.args.bytes.now 0 0) 9 (omega (arith, ltb-false)) refl (omega arith) in
-    subst (λ l. Reads event_text l c.read-priced-event.result) (sym e) c.read-priced-event.ensures
+    subst (λ l. Reads event_text l c.read_priced_event.result) (sym e) c.read_priced_event.ensures

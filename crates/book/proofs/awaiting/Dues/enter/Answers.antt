@@ -6,21 +6,21 @@ use Rattle.book.proofs.Turns.{turns_entered, as_fields}
 use Rattle.book.proofs.Steps.{at_within, placed_at}
 use Rattle.book.proofs.awaiting.Dues.enter.Goals as goal
 
-pub open-place-requires : goal.open-place-requires
-open-place-requires c =
+pub open_place-requires : goal.open_place-requires
+open_place-requires c =
     let b = c.args.self.now in
     let long : length (waiting b) ≡ b.count = length-take-le b.count b.slots (omega arith) in
-    record { within = at_within (sooner c.args.due) b.slots b.count _ c.first-place-at.ensures (omega arith); room = omega arith }
+    record { within = at_within (sooner c.args.due) b.slots b.count _ c.first_place-at.ensures (omega arith); room = omega arith }
 
-pub invariant-of-self : goal.invariant-of-self
-invariant-of-self c =
+pub invariant_of-self : goal.invariant_of-self
+invariant_of-self c =
     let b = c.args.self.now in
     let due = c.args.due in
     let long : length (waiting b) ≡ b.count = length-take-le b.count b.slots (omega arith) in
-    as_fields _ _ _ (omega arith) (omega arith) (placed_at (sooner due) b.slots b.count _ c.first-place-at.ensures (omega arith) _ due c.open-place.ensures.front)
+    as_fields _ _ _ (omega arith) (omega arith) (placed_at (sooner due) b.slots b.count _ c.first_place-at.ensures (omega arith) _ due c.open_place.ensures.front)
     (turns_entered due (waiting b) c.requires.unused b.turns)
 
 pub returns : goal.returns
 returns c =
     let b = c.args.self.now in
-    placed_at (sooner c.args.due) b.slots b.count _ c.first-place-at.ensures (omega arith) _ c.args.due c.open-place.ensures.front
+    placed_at (sooner c.args.due) b.slots b.count _ c.first_place-at.ensures (omega arith) _ c.args.due c.open_place.ensures.front

@@ -5,21 +5,21 @@ use Rattle.book.proofs.Turns.{turns_lacking, single_owed, as_fields}
 use Rattle.book.proofs.Steps.{lacking_at, nowhere_lacking}
 use Rattle.book.proofs.awaiting.Dues.remove.Goals as goal
 
-pub invariant-of-self : goal.invariant-of-self
-invariant-of-self c =
+pub invariant_of-self : goal.invariant_of-self
+invariant_of-self c =
     let b = c.args.self.now in
     let n = c.args.number in
     as_fields _ _ _ (omega arith) (omega arith)
-    (lacking_at (owed n) b.slots b.count _ c.first-place-at.ensures (omega arith) _ (single_owed n (waiting b) b.turns) (omega arith) c.close-place.ensures.front)
+    (lacking_at (owed n) b.slots b.count _ c.first_place-at.ensures (omega arith) _ (single_owed n (waiting b) b.turns) (omega arith) c.close_place.ensures.front)
     (turns_lacking n (waiting b) b.turns)
 
 pub returns-then-at-self : goal.returns-then-at-self
 returns-then-at-self c =
     let b = c.args.self.now in
     let n = c.args.number in
-    lacking_at (owed n) b.slots b.count _ c.first-place-at.ensures (omega arith) _ (single_owed n (waiting b) b.turns) (omega arith) c.close-place.ensures.front
+    lacking_at (owed n) b.slots b.count _ c.first_place-at.ensures (omega arith) _ (single_owed n (waiting b) b.turns) (omega arith) c.close_place.ensures.front
 
 pub returns-else-at-self : goal.returns-else-at-self
 returns-else-at-self c =
     let b = c.args.self.now in
-    nowhere_lacking (owed c.args.number) b.slots b.count _ c.first-place-at.ensures (omega arith) (omega arith)
+    nowhere_lacking (owed c.args.number) b.slots b.count _ c.first_place-at.ensures (omega arith) (omega arith)

@@ -6,11 +6,11 @@ use Rattle.book.specs.Books.{rows}
 use Rattle.book.proofs.Takes.{reach_best, reach_none}
 use Rattle.book.proofs.book.Book.best_in_reach.Goals as goal
 
-pub returns-in-default : goal.returns-in-default
-returns-in-default c =
+pub returns-in_default : goal.returns-in_default
+returns-in_default c =
     let rs = rows c.args.self.now in
     let t = c.args.taker in
-    sym (reach_none t rs (sym (c.in-default.ensures ∙ ap (λ (s : Side). best_of t.series s rs) c.opposite.ensures)))
+    sym (reach_none t rs (sym (c.in_default.ensures ∙ ap (λ (s : Side). best_of t.series s rs) c.opposite.ensures)))
 
 pub returns-then-reaches : goal.returns-then-reaches
 returns-then-reaches c =

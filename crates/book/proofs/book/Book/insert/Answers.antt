@@ -7,7 +7,7 @@ list-requires c =
     let b = c.args.self.now in
     record { room = insert_room (dues b) (rows b) b.tied c.args.row c.requires.fits c.requires.room; unused = insert_unused (dues b) (rows b) b.tied c.args.row c.requires.fits }
 
-pub invariant-of-self : goal.invariant-of-self
-invariant-of-self c =
+pub invariant_of-self : goal.invariant_of-self
+invariant_of-self c =
     let b = c.args.self.now in
     (insert_tied (dues b) (rows b) b.tied c.args.row c.requires.fits _ _ c.list.ensures c.insert.ensures, tt)

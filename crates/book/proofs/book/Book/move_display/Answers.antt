@@ -23,7 +23,7 @@ insert-requires c =
     let n = c.args.number in
     let r = c.in-Some.row in
     let f = sym c.in-Some.ensures.answer in
-    let is : moved_to c.args.display c.args.due r ≡ shown r c.args.display c.move-on-standing.result = ap (shown r c.args.display) (sym c.move-on-standing.ensures) in
+    let is : moved_to c.args.display c.args.due r ≡ shown r c.args.display c.move_on-standing.result = ap (shown r c.args.display) (sym c.move_on-standing.ensures) in
     let moved = moved_to c.args.display c.args.due r in
     let clear : every (λ x. numbered n x || agrees moved x) (rows b) ≡ true =
     subst (λ (k : ℕ). every (λ x. numbered k x || agrees moved x) (rows b) ≡ true) (found_number n (rows b) r f)
@@ -43,13 +43,13 @@ returns-in-Some c =
     let p = c.args.display in
     let due = c.args.due in
     c.insert.ensures
-    ∙ ap (λ (s : Standing). insert (shown r p s) (rows c.withdraw.new.self)) c.move-on-standing.ensures
+    ∙ ap (λ (s : Standing). insert (shown r p s) (rows c.withdraw.new.self)) c.move_on-standing.ensures
     ∙ ap (insert (moved_to p due r)) c.in-Some.ensures.after
     ∙ ap (λ (k : ℕ). insert (moved_to p due r) (without k (rows b))) (sym (found_number n (rows b) r f))
     ∙ ap (λ (o : Option Row). moved_in o p due (rows b)) (sym f)
 
-pub returns-in-default : goal.returns-in-default
-returns-in-default c =
+pub returns-in_default : goal.returns-in_default
+returns-in_default c =
     let b = c.args.self.now in
-    c.in-default.ensures.after ∙ absent_without c.args.number (rows b) c.in-default.ensures.answer
-    ∙ ap (λ (o : Option Row). moved_in o c.args.display c.args.due (rows b)) c.in-default.ensures.answer
+    c.in_default.ensures.after ∙ absent_without c.args.number (rows b) c.in_default.ensures.answer
+    ∙ ap (λ (o : Option Row). moved_in o c.args.display c.args.due (rows b)) c.in_default.ensures.answer

@@ -7,5 +7,5 @@ none : [] ≡ due_list []
 unfolding due_list
 none = refl
 
-pub invariant-of-result : goal.invariant-of-result
-invariant-of-result c = (same_by _ _ (c.new-2.ensures ∙ none ∙ ap due_list (sym c.new.ensures)), tt)
+pub invariant_of-result : goal.invariant_of-result
+invariant_of-result c = (same_by _ _ (c.new-2.ensures ∙ none ∙ ap due_list (sym c.new.ensures)), tt)

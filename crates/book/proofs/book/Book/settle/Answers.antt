@@ -10,13 +10,13 @@ use Rattle.book.proofs.book.Book.settle.Goals as goal
 few : (b : Book) → length (rows b) ≤ 256
 few b = let h = b.resting.few in omega (arith, length-take-le b.resting.count b.resting.slots (omega (arith, b.resting.whole)))
 
-pub invariant-of-self : goal.invariant-of-self
-invariant-of-self c =
+pub invariant_of-self : goal.invariant_of-self
+invariant_of-self c =
     let b = c.args.self.now in
-    (kept_tied (dues b) (rows b) b.tied _ (c.settle.ensures.after ∙ absent_settle c.args.due c.args.by c.args.number (rows b) c.in-default.ensures.answer), tt)
+    (kept_tied (dues b) (rows b) b.tied _ (c.settle.ensures.after ∙ absent_settle c.args.due c.args.by c.args.number (rows b) c.in_default.ensures.answer), tt)
 
-pub invariant-of-self-then-by-eq0 : goal.invariant-of-self-then-by-eq0
-invariant-of-self-then-by-eq0 c =
+pub invariant_of-self-then-by-eq0 : goal.invariant_of-self-then-by-eq0
+invariant_of-self-then-by-eq0 c =
     let b = c.args.self.now in
     (kept_tied (dues b) (rows b) b.tied _ (c.settle.ensures.after ∙ ap (λ q. settle c.args.due q c.args.number (rows b)) c.if-by-eq0.true ∙ settle_nothing c.args.due c.args.number (rows b)), tt)
 
@@ -32,15 +32,15 @@ list-requires c =
       unused = part_unused n r (rows b) h f _ (gone_tied (dues b) (rows b) b.tied n r _ (without n (rows b)) h f c.unlist.ensures refl);
     }
 
-pub invariant-of-self-then-by-row : goal.invariant-of-self-then-by-row
-invariant-of-self-then-by-row c =
+pub invariant_of-self-then-by-row : goal.invariant_of-self-then-by-row
+invariant_of-self-then-by-row c =
     let b = c.args.self.now in (
       part_tied (dues b) (rows b) b.tied c.args.due c.args.by c.args.number c.in-Some.row b.resting.sound.1 (sym c.in-Some.ensures.answer) (omega arith) c.if-by-row.true _ c.unlist.ensures
           _ c.renew.ensures _ _ c.list.ensures c.settle.ensures.after,
       tt,
     )
 
-pub invariant-of-self-else-by-row : goal.invariant-of-self-else-by-row
-invariant-of-self-else-by-row c =
+pub invariant_of-self-else-by-row : goal.invariant_of-self-else-by-row
+invariant_of-self-else-by-row c =
     let b = c.args.self.now in
     (settled_tied (dues b) (rows b) b.tied c.args.due c.args.by c.args.number c.in-Some.row _ _ b.resting.sound.1 (sym c.in-Some.ensures.answer) (omega arith) c.if-by-row.false c.unlist.ensures c.settle.ensures.after, tt)

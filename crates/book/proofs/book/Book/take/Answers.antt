@@ -35,7 +35,7 @@ loop-left-preserved c =
     let rs₀ = rows c.args.self.now in
     subst (λ (k : ℕ). Underway c.args.due t c.args.size rs₀ c.args.trades.now (n - k) (rows c.settle.new.self) c.push.new.self) (sym is)
     (underway_more c.args.due t c.args.size rs₀ c.args.trades.now n rs c.loop-left.trades c.loop-left.invariant b (rows c.settle.new.self) c.push.new.self (omega arith) c.loop-left.self.resting.sound (sym c.in-Some.ensures)
-    (subst (λ (e : Trade). Gains c.loop-left.trades c.push.new.self (e ∷ [])) (c.trade-with.ensures ∙ ap (λ (k : ℕ). trade_with t k b) is) c.push.ensures)
+    (subst (λ (e : Trade). Gains c.loop-left.trades c.push.new.self (e ∷ [])) (c.trade_with.ensures ∙ ap (λ (k : ℕ). trade_with t k b) is) c.push.ensures)
     (c.settle.ensures ∙ ap (λ (k : ℕ). settle c.args.due k b.number rs) is))
 
 pub returns-after-loop-left : goal.returns-after-loop-left
@@ -47,10 +47,10 @@ returns-after-loop-left c =
     underway_end c.args.due t c.args.size (rows c.args.self.now) c.args.trades.now c.loop-left.left rs c.loop-left.trades u c.args.self.now.resting.sound
     (subst (λ (k : ℕ). take c.args.due t k rs (reverse u.added) ≡ fill k rs (reverse u.added)) (sym none) (take_nothing c.args.due t rs (reverse u.added)))
 
-pub returns-in-default : goal.returns-in-default
-returns-in-default c =
+pub returns-in_default : goal.returns-in_default
+returns-in_default c =
     let t = c.args.taker in
     let rs = rows c.loop-left.self in
     let u = c.loop-left.invariant in
     underway_end c.args.due t c.args.size (rows c.args.self.now) c.args.trades.now c.loop-left.left rs c.loop-left.trades u c.args.self.now.resting.sound
-    (take_none c.args.due t c.loop-left.left rs (reverse u.added) (sym c.in-default.ensures))
+    (take_none c.args.due t c.loop-left.left rs (reverse u.added) (sym c.in_default.ensures))

@@ -9,6 +9,6 @@ pub returns : goal.returns
 returns c =
     let b = c.args.self.now in
     let long : length (take b.count b.slots) ≡ b.count = length-take-le b.count b.slots (omega arith) in
-    ap (λ k. eqb k b.count) c.first-place.ensures
+    ap (λ k. eqb k b.count) c.first_place.ensures
     ∙ ap (λ k. eqb (first (λ x. not (agrees c.args.row x)) (take b.count b.slots)) k) (sym long)
     ∙ all_pass (agrees c.args.row) (take b.count b.slots)

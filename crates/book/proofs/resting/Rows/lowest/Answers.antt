@@ -37,7 +37,7 @@ loop-k-preserved-then-wants g c =
     let p = wanted_from w c.args.from in
     let row = get_or b.slots (k - 1) blank in
     let passes : p row ≡ true = and_from (leb c.args.from row.number) (w row) (le-leb c.args.from row.number c.if-from-row.true) (sym c.if-wants.ensures) in
-    (omega arith, c.lower-of-best.ensures ∙ ap (lower true row) c.loop-k.invariant.1 ∙ lowest_more p b.slots b.count k true (omega arith) (omega arith) (omega arith) passes)
+    (omega arith, c.lower_of-best.ensures ∙ ap (lower true row) c.loop-k.invariant.1 ∙ lowest_more p b.slots b.count k true (omega arith) (omega arith) (omega arith) passes)
 
 pub loop-k-preserved : goal.loop-k-preserved
 loop-k-preserved g c =

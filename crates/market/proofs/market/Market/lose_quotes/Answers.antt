@@ -20,8 +20,8 @@ withdraw-requires-in-WholeClass g c =
     omega (
       arith,
       c.requires.room,
-      mine_few c.args.maker (mine_in ss c.args.maker c.class-of-class.result) (rows_on floor) floor.book.resting.sound floor.listed
-          (λ r e. (and_parts (is_mine c.args.maker r.standing) (eqb (class_in ss r.series) c.class-of-class.result) e).0),
+      mine_few c.args.maker (mine_in ss c.args.maker c.class_of-class.result) (rows_on floor) floor.book.resting.sound floor.listed
+          (λ r e. (and_parts (is_mine c.args.maker r.standing) (eqb (class_in ss r.series) c.class_of-class.result) e).0),
     )
 
 pub put-requires : goal.put-requires
@@ -29,5 +29,5 @@ put-requires g c =
     let l = c.args.self.now.listing in
     record {
       maker = c.requires.maker;
-      class = omega (arith, c.class-of-class.ensures, known_at (listed l) c.args.series (record { class = 0; kind = Call; strike = 0 }) l.known c.requires.series);
+      class = omega (arith, c.class_of-class.ensures, known_at (listed l) c.args.series (record { class = 0; kind = Call; strike = 0 }) l.known c.requires.series);
     }

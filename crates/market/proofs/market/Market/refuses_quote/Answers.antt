@@ -9,5 +9,5 @@ has-requires g c =
     let l = c.args.self.now.listing in
     record {
       maker = omega (arith, c.if-maker-gt15.false);
-      class = omega (arith, c.class-of.ensures, known_at (listed l) c.args.series (record { class = 0; kind = Call; strike = 0 }) l.known (omega (arith, c.len.ensures, c.if-series-len.false)));
+      class = omega (arith, c.class_of.ensures, known_at (listed l) c.args.series (record { class = 0; kind = Call; strike = 0 }) l.known (omega (arith, c.len.ensures, c.if-series-len.false)));
     }

@@ -30,8 +30,8 @@ enter-requires g c =
       series = omega (arith, clear.listed_series, few_series m.listing);
     }
 
-pub enter-now-requires : goal.enter-now-requires
-enter-now-requires g c =
+pub enter_now-requires : goal.enter_now-requires
+enter_now-requires g c =
     let m = c.args.self.now in
     let clear = order_clear g.O.Screen g.Q.Screen g.Q.QuoteScreen g.S.PriceSource m c.args.trades.now c.args.withdrawals.now c.args.series c.args.price c.args.size c.args.condition c.requires in
     record {

@@ -7,6 +7,6 @@ returns g c =
     let refs = g.S.PriceSource.references c.args.self.now.source in
     let long = g.met.S.PriceSource.sixteen c.args.self.now.source in
     let there : c.args.class < length refs = omega arith in
-    let alive : g.S.PriceSource.live c.args.self.now.source ≡ true = sym c.is-live.ensures ∙ c.if-not-is-live.false in
+    let alive : g.S.PriceSource.live c.args.self.now.source ≡ true = sym c.is_live.ensures ∙ c.if-not-is_live.false in
     let shows = told_shows refs _ _ c.args.class c.args.event alive there c.tell.ensures.moves in
     search rules

@@ -6,7 +6,7 @@ use Rattle.sources.proofs.closing_sheet.ClosingSheetPriceSource.reference.Goals 
 
 pub returns-then-class-lt-CLASSES : goal.returns-then-class-lt-CLASSES
 returns-then-class-lt-CLASSES c =
-    c.close-of.ensures ∙ sym (get_or-map close_of c.args.self.now.closes c.args.class None)
+    c.close_of.ensures ∙ sym (get_or-map close_of c.args.self.now.closes c.args.class None)
 
 pub returns-else-class-lt-CLASSES : goal.returns-else-class-lt-CLASSES
 returns-else-class-lt-CLASSES c =

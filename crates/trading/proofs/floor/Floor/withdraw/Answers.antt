@@ -7,12 +7,12 @@ use Rattle.trading.proofs.Keeping.{pull_rests, rest_highest}
 use Rattle.trading.proofs.Placing.{pull_placed}
 use Rattle.trading.proofs.floor.Floor.withdraw.Goals as goal
 
-pub withdraw-all-requires : goal.withdraw-all-requires
-withdraw-all-requires g c =
+pub withdraw_all-requires : goal.withdraw_all-requires
+withdraw_all-requires g c =
     let f = c.args.self.now in
     record { room = c.requires; numbers = omega (arith, rest_highest f.clock f.next (rows f.book) f.rest f.book.resting.sound f.begun, f.ended) }
 
-pub invariant-of-self : goal.invariant-of-self
-invariant-of-self g c =
+pub invariant_of-self : goal.invariant_of-self
+invariant_of-self g c =
     let f = c.args.self.now in
-    (f.clocked, (f.begun, (f.ended, (subst (λ (rs : List Row). AtRest f.clock f.next rs) (sym c.withdraw-all.ensures.rests) (pull_rests f.clock f.next (rows f.book) (g.W.Wanted.wants c.args.wanted.now) f.rest f.book.resting.sound f.begun), (subst (λ (rs : List Row). every in_series rs ≡ true) (sym c.withdraw-all.ensures.rests) (pull_placed (g.W.Wanted.wants c.args.wanted.now) (rows f.book) f.listed), tt)))))
+    (f.clocked, (f.begun, (f.ended, (subst (λ (rs : List Row). AtRest f.clock f.next rs) (sym c.withdraw_all.ensures.rests) (pull_rests f.clock f.next (rows f.book) (g.W.Wanted.wants c.args.wanted.now) f.rest f.book.resting.sound f.begun), (subst (λ (rs : List Row). every in_series rs ≡ true) (sym c.withdraw_all.ensures.rests) (pull_placed (g.W.Wanted.wants c.args.wanted.now) (rows f.book) f.listed), tt)))))

@@ -11,7 +11,7 @@ returns c =
     let size = 80 - t.start in
     let long : size ≡ length (made t) = simp length-drop (omega arith) in
     let whole : size - 0 ≡ length (made t) = omega (arith, long) in
-    let copied : c.copy-from-slice.new.self ≡ made t = c.copy-from-slice.ensures.after ∙ between_to_end t.bytes t.start _ (omega arith) in
+    let copied : c.copy_from_slice.new.self ≡ made t = c.copy_from_slice.ensures.after ∙ between_to_end t.bytes t.start _ (omega arith) in
     record {
       size = long;
       bytes = ap (λ l. l ++ drop (size - 0) out) copied ∙ ap (λ n. made t ++ drop n out) whole;
