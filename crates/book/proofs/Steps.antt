@@ -56,10 +56,6 @@ module _ (n : ℕ) (slots : List Row) (count at : ℕ) (is : at ≡ first (numbe
   pub absent_at : (due by : ℕ) → count ≤ at → take count slots ≡ settle due by n (take count slots)
   absent_at due by l = sym (settle_none due by n (take count slots) (none_passes (numbered n) (take count slots) (omega (arith, long (numbered n) slots count at is room))))
 
--- the ghost fields of the rows, as a check asks for them
-pub as_fields : (slots : List Row) (count : ℕ) (rs : List Row) → count ≤ 256 → length slots ≡ 256 → take count slots ≡ rs → Sound rs → (count ≤ 256) × ((length slots ≡ 256) × (Sound (take count slots) × Unit {0}))
-as_fields slots count rs few whole is s = (few, (whole, (subst Sound (sym is) s, tt)))
-
 -- what stands in a slot that holds no row
 abbrev pub blank : Row
 blank = record { number = 0; series = 0; side = Buy; display = 0; limit = 0; size = 0; standing = Plain }

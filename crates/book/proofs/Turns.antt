@@ -17,7 +17,3 @@ turns_lacking n ds s = (pairwise_lacking (owed n) sooner ds s.0, pairwise_lackin
 
 pub single_owed : (n : ℕ) (ds : List Due) → InTurn ds → single (owed n) ds ≡ true
 single_owed n ds s = pairwise_weaker (λ a b h. distinct_single n a b h) ds s.1
-
--- the ghost fields of the due list, as a check asks for them
-pub as_fields : (slots : List Due) (count : ℕ) (ds : List Due) → count ≤ 256 → length slots ≡ 256 → take count slots ≡ ds → InTurn ds → (count ≤ 256) × ((length slots ≡ 256) × (InTurn (take count slots) × Unit {0}))
-as_fields slots count ds few whole is s = (few, (whole, (subst InTurn (sym is) s, tt)))

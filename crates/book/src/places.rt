@@ -59,7 +59,7 @@ pub trait Wanted<T> {
 // The first of the `count` places whose element is wanted, or `count`.
 pub(crate) fn first_place<T: Copy, W: Wanted<T>>(slots: &[T], count: usize, wanted: &W) -> usize
     requires room { count ≤ length slots.now }
-    ensures { result ≡ first (wants wanted.now) (take count slots.now) }
+    ensures { result ≡ first (W.wants wanted.now) (take count slots.now) }
 {
     for k in 0..count {
         if wanted.wants(slots[k]) {
@@ -72,8 +72,8 @@ pub(crate) fn first_place<T: Copy, W: Wanted<T>>(slots: &[T], count: usize, want
 // The same, by halving, where all elements after a wanted one are wanted.
 pub(crate) fn parting_place<T: Copy, W: Wanted<T>>(slots: &[T], count: usize, wanted: &W) -> usize
     requires room { count ≤ length slots.now }
-    requires parted { parted (wants wanted.now) (take count slots.now) ≡ true }
-    ensures { result ≡ first (wants wanted.now) (take count slots.now) }
+    requires parted { parted (W.wants wanted.now) (take count slots.now) ≡ true }
+    ensures { result ≡ first (W.wants wanted.now) (take count slots.now) }
 {
     let mut low = 0;
     let mut high = count;

@@ -12,9 +12,9 @@ use rolls::roll::Roll;
 
 // Withdraws every row that is wanted, the lowest number first.
 pub fn withdraw_all<W: Wanted<Row>>(book: &mut Book, wanted: &W, withdrawals: &mut Roll<Withdrawal>)
-    requires room { count (W.Wanted.wants wanted.now) (rows book.old) ≤ room withdrawals.old }
+    requires room { count (W.wants wanted.now) (rows book.old) ≤ room withdrawals.old }
     requires numbers { highest (rows book.old) < 1000000 }
-    ensures { Withdrawing (rows book.new) withdrawals.old withdrawals.new (pull (W.Wanted.wants wanted.now) (desk (rows book.old))) }
+    ensures { Withdrawing (rows book.new) withdrawals.old withdrawals.new (pull (W.wants wanted.now) (desk (rows book.old))) }
 {
     let mut from = 1;
     while let Some(row) = book.lowest(from, wanted) {

@@ -134,7 +134,7 @@ impl Book {
 
     // Of the rows from a number on that are wanted, the one with the lowest number.
     pub fn lowest<W: Wanted<Row>>(&self, from: u32, wanted: &W) -> Option<Row>
-        ensures { result ≡ lowest (wanted_from (wants wanted.now) from) (rows self.now) }
+        ensures { result ≡ lowest (wanted_from (W.wants wanted.now) from) (rows self.now) }
     {
         self.resting.lowest(from, wanted)
     }

@@ -282,7 +282,7 @@ impl Rows {
 
     // Of the rows from a number on that are wanted, the one with the lowest number.
     pub fn lowest<W: Wanted<Row>>(&self, from: u32, wanted: &W) -> Option<Row>
-        ensures { result ≡ lowest (wanted_from (wants wanted.now) from) (ranked self.now) }
+        ensures { result ≡ lowest (wanted_from (W.wants wanted.now) from) (ranked self.now) }
     {
         let mut best = None;
         let mut k = self.count;

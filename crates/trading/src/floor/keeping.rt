@@ -61,15 +61,15 @@ impl Floor {
 
     // Of the rows that are wanted, the one with the lowest number.
     pub fn first<W: Wanted<Row>>(&self, wanted: &W) -> Option<Row>
-        ensures { result ≡ lowest (wanted_from (W.Wanted.wants wanted.now) 0) (rows_on self.now) }
+        ensures { result ≡ lowest (wanted_from (W.wants wanted.now) 0) (rows_on self.now) }
     {
         self.book.lowest(0, wanted)
     }
 
     // Withdraws every row that is wanted, the lowest number first.
     pub fn withdraw<W: Wanted<Row>>(&mut self, wanted: &W, withdrawals: &mut Roll<Withdrawal>)
-        requires { count (W.Wanted.wants wanted.now) (rows_on self.old) ≤ room withdrawals.old }
-        ensures did { Withdrawing (rows_on self.new) withdrawals.old withdrawals.new (pull (W.Wanted.wants wanted.now) (desk (rows_on self.old))) }
+        requires { count (W.wants wanted.now) (rows_on self.old) ≤ room withdrawals.old }
+        ensures did { Withdrawing (rows_on self.new) withdrawals.old withdrawals.new (pull (W.wants wanted.now) (desk (rows_on self.old))) }
         ensures leaves { Leaves self.new self.old.clock self.old.next }
     {
         withdraw_all(&mut self.book, wanted, withdrawals);

@@ -10,4 +10,4 @@ list-requires c =
 pub invariant_of-self : goal.invariant_of-self
 invariant_of-self c =
     let b = c.args.self.now in
-    (insert_tied (dues b) (rows b) b.tied c.args.row c.requires.fits _ _ c.list.ensures c.insert.ensures, tt)
+    record { tied = insert_tied (dues b) (rows b) b.tied c.args.row c.requires.fits _ _ c.list.ensures c.insert.ensures }

@@ -8,4 +8,4 @@ unfolding due_list
 none = refl
 
 pub invariant_of-result : goal.invariant_of-result
-invariant_of-result c = (same_by _ _ (c.new-2.ensures ∙ none ∙ ap due_list (sym c.new.ensures)), tt)
+invariant_of-result c = record { tied = same_by _ _ (c.new-2.ensures ∙ none ∙ ap due_list (sym c.new.ensures)) }

@@ -13,12 +13,12 @@ few b = let h = b.resting.few in omega (arith, length-take-le b.resting.count b.
 pub invariant_of-self : goal.invariant_of-self
 invariant_of-self c =
     let b = c.args.self.now in
-    (kept_tied (dues b) (rows b) b.tied _ (c.settle.ensures.after ∙ absent_settle c.args.due c.args.by c.args.number (rows b) c.in_default.ensures.answer), tt)
+    record { tied = kept_tied (dues b) (rows b) b.tied _ (c.settle.ensures.after ∙ absent_settle c.args.due c.args.by c.args.number (rows b) c.in_default.ensures.answer) }
 
 pub invariant_of-self-then-by-eq0 : goal.invariant_of-self-then-by-eq0
 invariant_of-self-then-by-eq0 c =
     let b = c.args.self.now in
-    (kept_tied (dues b) (rows b) b.tied _ (c.settle.ensures.after ∙ ap (λ q. settle c.args.due q c.args.number (rows b)) c.if-by-eq0.true ∙ settle_nothing c.args.due c.args.number (rows b)), tt)
+    record { tied = kept_tied (dues b) (rows b) b.tied _ (c.settle.ensures.after ∙ ap (λ q. settle c.args.due q c.args.number (rows b)) c.if-by-eq0.true ∙ settle_nothing c.args.due c.args.number (rows b)) }
 
 pub list-requires : goal.list-requires
 list-requires c =
@@ -34,13 +34,14 @@ list-requires c =
 
 pub invariant_of-self-then-by-row : goal.invariant_of-self-then-by-row
 invariant_of-self-then-by-row c =
-    let b = c.args.self.now in (
-      part_tied (dues b) (rows b) b.tied c.args.due c.args.by c.args.number c.in-Some.row b.resting.sound.1 (sym c.in-Some.ensures.answer) (omega arith) c.if-by-row.true _ c.unlist.ensures
-          _ c.renew.ensures _ _ c.list.ensures c.settle.ensures.after,
-      tt,
-    )
+    let b = c.args.self.now in
+    record {
+      tied =
+        part_tied (dues b) (rows b) b.tied c.args.due c.args.by c.args.number c.in-Some.row b.resting.sound.1 (sym c.in-Some.ensures.answer) (omega arith) c.if-by-row.true _ c.unlist.ensures
+          _ c.renew.ensures _ _ c.list.ensures c.settle.ensures.after;
+    }
 
 pub invariant_of-self-else-by-row : goal.invariant_of-self-else-by-row
 invariant_of-self-else-by-row c =
     let b = c.args.self.now in
-    (settled_tied (dues b) (rows b) b.tied c.args.due c.args.by c.args.number c.in-Some.row _ _ b.resting.sound.1 (sym c.in-Some.ensures.answer) (omega arith) c.if-by-row.false c.unlist.ensures c.settle.ensures.after, tt)
+    record { tied = settled_tied (dues b) (rows b) b.tied c.args.due c.args.by c.args.number c.in-Some.row _ _ b.resting.sound.1 (sym c.in-Some.ensures.answer) (omega arith) c.if-by-row.false c.unlist.ensures c.settle.ensures.after }

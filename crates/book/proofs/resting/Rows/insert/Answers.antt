@@ -1,9 +1,9 @@
-use Rattle.std.proofs.Common.{◌≡◌, length, arith}
+use Rattle.std.proofs.Common.{◌≡◌, length, arith, sym, subst}
 use Rattle.std.proofs.lemmas.List.{length-take-le}
 use Rattle.book.specs.Listings.{ranked}
-use Rattle.book.specs.Rows.{precedes}
+use Rattle.book.specs.Rows.{Sound, precedes}
 use Rattle.book.proofs.Sound.{sound_insert, parted_rank}
-use Rattle.book.proofs.Steps.{at_within, placed_at, as_fields}
+use Rattle.book.proofs.Steps.{at_within, placed_at}
 use Rattle.book.proofs.resting.Rows.insert.Goals as goal
 
 pub parting_place-at-requires : goal.parting_place-at-requires
@@ -22,8 +22,7 @@ invariant_of-self c =
     let b = c.args.self.now in
     let row = c.args.row in
     let long : length (ranked b) ≡ b.count = length-take-le b.count b.slots (omega arith) in
-    as_fields _ _ _ (omega arith) (omega arith) (placed_at (precedes row) b.slots b.count _ c.parting_place-at.ensures (omega arith) _ row c.open_place.ensures.front)
-    (sound_insert row (ranked b) c.requires.fits c.requires.some b.sound)
+    record { few = (omega arith); whole = (omega arith); sound = subst Sound (sym (placed_at (precedes row) b.slots b.count _ c.parting_place-at.ensures (omega arith) _ row c.open_place.ensures.front)) (sound_insert row (ranked b) c.requires.fits c.requires.some b.sound) }
 
 pub returns : goal.returns
 returns c =

@@ -9,7 +9,11 @@ pub invariant_of-self : goal.invariant_of-self
 invariant_of-self c =
     let l = c.args.self.now in
     let new = take_push l.series l.count (record { class = c.args.class; kind = c.args.kind; strike = c.args.strike }) (omega arith) in
-    (omega arith, (simp length-set l.whole, (subst (λ (xs : List Series). all_known xs ≡ true) (sym new) (known_more (take l.count l.series) _ l.known (le-leb c.args.class 15 (omega arith))), tt)))
+    record {
+      few = omega arith;
+      whole = simp length-set l.whole;
+      known = subst (λ (xs : List Series). all_known xs ≡ true) (sym new) (known_more (take l.count l.series) _ l.known (le-leb c.args.class 15 (omega arith)));
+    }
 
 pub returns : goal.returns
 returns c =

@@ -18,4 +18,10 @@ pub invariant_of-self : goal.invariant_of-self
 invariant_of-self c =
     let f = c.args.self.now in
     let step = c.requires.step in
-    (c.requires.end, (f.begun, (f.ended, (subst (λ (rs : List Row). AtRest (f.clock + c.args.ms) f.next rs) (sym c.advance.ensures.rests) (advance_rests f.clock (f.clock + c.args.ms) f.next (rows f.book) f.rest f.book.resting.sound f.begun (omega arith) (omega arith)), (subst (λ (rs : List Row). every in_series rs ≡ true) (sym c.advance.ensures.rests) (advance_placed (f.clock + c.args.ms) (rows f.book) f.listed), tt)))))
+    record {
+      clocked = c.requires.end;
+      begun = f.begun;
+      ended = f.ended;
+      rest = subst (λ (rs : List Row). AtRest (f.clock + c.args.ms) f.next rs) (sym c.advance.ensures.rests) (advance_rests f.clock (f.clock + c.args.ms) f.next (rows f.book) f.rest f.book.resting.sound f.begun (omega arith) (omega arith));
+      listed = subst (λ (rs : List Row). every in_series rs ≡ true) (sym c.advance.ensures.rests) (advance_placed (f.clock + c.args.ms) (rows f.book) f.listed);
+    }

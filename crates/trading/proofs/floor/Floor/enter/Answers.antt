@@ -24,4 +24,10 @@ enter-requires c =
 pub invariant_of-self : goal.invariant_of-self
 invariant_of-self c =
     let f = c.args.self.now in
-    (f.clocked, (omega arith, (omega (arith, c.requires.last), (subst (λ (rs : List Row). AtRest f.clock (f.next + 1) rs) (sym c.enter.ensures.rests) (enter_rests f.clock f.next c.args.ticket c.args.pricing (rows f.book) c.requires.number f.rest f.book.resting.sound f.begun c.requires.reach), (subst (λ (rs : List Row). every in_series rs ≡ true) (sym c.enter.ensures.rests) (enter_placed (f.clock + 1000) c.args.ticket c.args.pricing (rows f.book) c.requires.series f.listed), tt)))))
+    record {
+      clocked = f.clocked;
+      begun = omega arith;
+      ended = omega (arith, c.requires.last);
+      rest = subst (λ (rs : List Row). AtRest f.clock (f.next + 1) rs) (sym c.enter.ensures.rests) (enter_rests f.clock f.next c.args.ticket c.args.pricing (rows f.book) c.requires.number f.rest f.book.resting.sound f.begun c.requires.reach);
+      listed = subst (λ (rs : List Row). every in_series rs ≡ true) (sym c.enter.ensures.rests) (enter_placed (f.clock + 1000) c.args.ticket c.args.pricing (rows f.book) c.requires.series f.listed);
+    }

@@ -10,4 +10,10 @@ use Rattle.trading.proofs.floor.Floor.enter_now.Goals as goal
 pub invariant_of-self : goal.invariant_of-self
 invariant_of-self c =
     let f = c.args.self.now in
-    (f.clocked, (omega arith, (omega arith, (subst (λ (rs : List Row). AtRest f.clock (f.next + 1) rs) (sym c.enter_now.ensures.trades.rests) (enter_now_rests f.clock f.next c.args.ticket (rows f.book) f.rest f.book.resting.sound f.begun), (subst (λ (rs : List Row). every in_series rs ≡ true) (sym c.enter_now.ensures.trades.rests) (enter_now_placed (f.clock + 1000) c.args.ticket (rows f.book) f.listed), tt)))))
+    record {
+      clocked = f.clocked;
+      begun = omega arith;
+      ended = omega arith;
+      rest = subst (λ (rs : List Row). AtRest f.clock (f.next + 1) rs) (sym c.enter_now.ensures.trades.rests) (enter_now_rests f.clock f.next c.args.ticket (rows f.book) f.rest f.book.resting.sound f.begun);
+      listed = subst (λ (rs : List Row). every in_series rs ≡ true) (sym c.enter_now.ensures.trades.rests) (enter_now_placed (f.clock + 1000) c.args.ticket (rows f.book) f.listed);
+    }

@@ -15,4 +15,10 @@ withdraw_all-requires g c =
 pub invariant_of-self : goal.invariant_of-self
 invariant_of-self g c =
     let f = c.args.self.now in
-    (f.clocked, (f.begun, (f.ended, (subst (λ (rs : List Row). AtRest f.clock f.next rs) (sym c.withdraw_all.ensures.rests) (pull_rests f.clock f.next (rows f.book) (g.W.Wanted.wants c.args.wanted.now) f.rest f.book.resting.sound f.begun), (subst (λ (rs : List Row). every in_series rs ≡ true) (sym c.withdraw_all.ensures.rests) (pull_placed (g.W.Wanted.wants c.args.wanted.now) (rows f.book) f.listed), tt)))))
+    record {
+      clocked = f.clocked;
+      begun = f.begun;
+      ended = f.ended;
+      rest = subst (λ (rs : List Row). AtRest f.clock f.next rs) (sym c.withdraw_all.ensures.rests) (pull_rests f.clock f.next (rows f.book) (g.W.Wanted.wants c.args.wanted.now) f.rest f.book.resting.sound f.begun);
+      listed = subst (λ (rs : List Row). every in_series rs ≡ true) (sym c.withdraw_all.ensures.rests) (pull_placed (g.W.Wanted.wants c.args.wanted.now) (rows f.book) f.listed);
+    }
