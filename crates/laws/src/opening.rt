@@ -17,7 +17,7 @@ pub fn open_market<O: Screen, Q: QuoteScreen, S: PriceSource>(
     quotes: Q,
     source: S,
 ) -> Market<O, Q, S>
-    ensures lawful { EveryHistoryLawful (making O.Screen Q.Screen Q.QuoteScreen S.PriceSource) (state O.Screen Q.Screen Q.QuoteScreen S.PriceSource) (reference_of (S.PriceSource.references source)) result }
+    ensures lawful { EveryHistoryLawful (making O.Screen Q.Screen Q.extent S.PriceSource) (state O.Screen Q.Screen Q.extent S.PriceSource) (reference_of (S.PriceSource.references source)) result }
     ensures parts { (result.listing ≡ listing) × (result.orders ≡ orders) × (result.quotes ≡ quotes) × (result.source ≡ source) }
 {
     Market::new(listing, orders, quotes, source)

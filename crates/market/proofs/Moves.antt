@@ -7,8 +7,10 @@ use Rattle.rolls.proofs.Gaining.{gains_nothing}
 use Rattle.book.specs.declared.row.Row.{Row}
 use Rattle.book.specs.declared.row.Trade.{Trade}
 use Rattle.book.specs.declared.row.Withdrawal.{Withdrawal}
+use Rattle.screens.specs.declared.view.View.{View}
+use Rattle.screens.specs.declared.view.Extent.{Extent}
+use Rattle.values.specs.declared.side.Side.{Side}
 use Rattle.screens.specs.declared.screen.Screen as screen
-use Rattle.screens.specs.declared.screen.QuoteScreen as quoting
 use Rattle.sources.specs.declared.PriceSource as source
 use Rattle.collars.specs.declared.pricing.Pricing.{Pricing}
 use Rattle.trading.specs.declared.ticket.Ticket.{Ticket}
@@ -37,7 +39,7 @@ some_lacks (Some r) e = refl
 pub none_gained : {T : Type 0} (roll : Roll T) (xs : List T) → xs ≡ [] → Gains roll roll xs
 none_gained roll xs e = subst (Gains roll roll) (sym e) (gains_nothing roll)
 
-module _ {O Q S : Type 0} (o : screen.Ghosts O) (q : screen.Ghosts Q) (k : quoting.Ghosts Q) (s : source.Ghosts S) (m : Market O Q S) (f : Floor) where
+module _ {O Q S : Type 0} (o : screen.Ghosts O) (q : screen.Ghosts Q) (k : Q → View → Side → ℕ → Extent) (s : source.Ghosts S) (m : Market O Q S) (f : Floor) where
   -- the market with another floor
   abbrev pub on_floor : Market O Q S
   on_floor = record { orders = m.orders; quotes = m.quotes; source = m.source; listing = m.listing; nbbos = m.nbbos; settings = m.settings; shutouts = m.shutouts; floor = f }
@@ -94,7 +96,7 @@ module _ {O Q S : Type 0} (o : screen.Ghosts O) (q : screen.Ghosts Q) (k : quoti
   }
 
 -- a call that adds nothing leaves the rolls as they were
-pub quietly : {O Q S : Type 0} (o : screen.Ghosts O) (q : screen.Ghosts Q) (k : quoting.Ghosts Q) (s : source.Ghosts S) (m m' : Market O Q S) (a : Answer) (out : Outcome) (trades : Roll Trade) (withdrawals : Roll Withdrawal) → ComesQuietly o q k s m m' a out → ComesWith o q k s m m' a out trades trades withdrawals withdrawals
+pub quietly : {O Q S : Type 0} (o : screen.Ghosts O) (q : screen.Ghosts Q) (k : Q → View → Side → ℕ → Extent) (s : source.Ghosts S) (m m' : Market O Q S) (a : Answer) (out : Outcome) (trades : Roll Trade) (withdrawals : Roll Withdrawal) → ComesQuietly o q k s m m' a out → ComesWith o q k s m m' a out trades trades withdrawals withdrawals
 quietly o q k s m m' a out trades withdrawals h = record {
   comes = h.comes;
   trades_gain = none_gained trades _ (ap trades_of h.quiet);

@@ -14,8 +14,8 @@ use Rattle.book.specs.declared.row.Withdrawal.{Withdrawal}
 use Rattle.book.specs.Lists.{every}
 use Rattle.book.specs.Taking.{Has}
 use Rattle.book.specs.Rows.{same_side, stands_at, Sound}
+use Rattle.screens.specs.declared.view.View.{View}
 use Rattle.screens.specs.declared.screen.Screen as screen
-use Rattle.screens.specs.declared.screen.QuoteScreen as quoting
 use Rattle.screens.specs.declared.view.Verdict.{Verdict}
 use Rattle.screens.specs.declared.view.Verdict.TheVariants.{Pass, Refused}
 use Rattle.screens.specs.declared.view.Ruling.{Ruling}
@@ -118,7 +118,7 @@ module _ (k s : ℕ) (side : Side) (floor : Floor) where
       absurd (clash (p r) (and_from (is_mine k r.standing) (stands_at s side r) own at) (side_gone r h)))
       (λ y. rw y))
 
-module _ {O Q S : Type 0} (o : screen.Ghosts O) (q : screen.Ghosts Q) (k : quoting.Ghosts Q) (src : source.Ghosts S) (m : Market O Q S) where
+module _ {O Q S : Type 0} (o : screen.Ghosts O) (q : screen.Ghosts Q) (k : Q → View → Side → ℕ → Extent) (src : source.Ghosts S) (m : Market O Q S) where
   -- what the tests of a quote leave
   pub record QuoteClear (trades : Roll Trade) (withdrawals : Roll Withdrawal) (maker series : ℕ) (side : Side) : Type 0 where
     pub trade_room : 256 ≤ room trades
@@ -179,7 +179,7 @@ module _ {O Q S : Type 0} (o : screen.Ghosts O) (q : screen.Ghosts Q) (k : quoti
   lost_same OneSide why maker series side = pull_same (on_side maker series side) (desk (rows_on m.floor))
   lost_same WholeClass why maker series side = pull_same _ (desk (rows_on m.floor))
 
-  pub quote_loses : (m' : Market O Q S) (a : Answer) (maker series : ℕ) (side : Side) (price size : ℕ) (why : Cause) (x : Extent) (trades : Roll Trade) (withdrawals₀ withdrawals : Roll Withdrawal) → None ≡ first (tests_quote (making o q k src m) (state o q k src m) (room_of trades withdrawals₀) maker series side price size) → q.meaning m.quotes (view_in (making o q k src m) (state o q k src m) series) side price ≡ Refused why → k.extent m.quotes (view_in (making o q k src m) (state o q k src m) series) side price ≡ x → Comes o q k src m m' a (refused_quote (making o q k src m) (state o q k src m) x why maker series side) → Gains withdrawals₀ withdrawals (withdrawals_of (refused_quote (making o q k src m) (state o q k src m) x why maker series side).journal) → ComesWith o q k src m m' a (step_quote (making o q k src m) (state o q k src m) (room_of trades withdrawals₀) maker series side price size) trades trades withdrawals₀ withdrawals
+  pub quote_loses : (m' : Market O Q S) (a : Answer) (maker series : ℕ) (side : Side) (price size : ℕ) (why : Cause) (x : Extent) (trades : Roll Trade) (withdrawals₀ withdrawals : Roll Withdrawal) → None ≡ first (tests_quote (making o q k src m) (state o q k src m) (room_of trades withdrawals₀) maker series side price size) → q.meaning m.quotes (view_in (making o q k src m) (state o q k src m) series) side price ≡ Refused why → k m.quotes (view_in (making o q k src m) (state o q k src m) series) side price ≡ x → Comes o q k src m m' a (refused_quote (making o q k src m) (state o q k src m) x why maker series side) → Gains withdrawals₀ withdrawals (withdrawals_of (refused_quote (making o q k src m) (state o q k src m) x why maker series side).journal) → ComesWith o q k src m m' a (step_quote (making o q k src m) (state o q k src m) (room_of trades withdrawals₀) maker series side price size) trades trades withdrawals₀ withdrawals
   quote_loses m' a maker series side price size why x trades withdrawals₀ withdrawals e v w h gains =
       subst (λ (y : Option Refusal). ComesWith o q k src m m' a (unless y (state o q k src m) (quote_by (making o q k src m) (state o q k src m) (q.meaning m.quotes (view_in (making o q k src m) (state o q k src m) series) side price) maker series side price size)) trades trades withdrawals₀ withdrawals) e
       (subst (λ (y : Verdict). ComesWith o q k src m m' a (quote_by (making o q k src m) (state o q k src m) y maker series side price size) trades trades withdrawals₀ withdrawals) (sym v)

@@ -12,8 +12,9 @@ use Rattle.rolls.specs.Rolls.{room}
 use Rattle.book.specs.declared.row.Trade.{Trade}
 use Rattle.book.specs.declared.row.Withdrawal.{Withdrawal}
 use Rattle.book.specs.Lists.{every}
+use Rattle.screens.specs.declared.view.View.{View}
+use Rattle.screens.specs.declared.view.Extent.{Extent}
 use Rattle.screens.specs.declared.screen.Screen as screen
-use Rattle.screens.specs.declared.screen.QuoteScreen as quoting
 use Rattle.sources.specs.declared.PriceSource as source
 use Rattle.collars.specs.declared.pricing.Pricing.{Pricing}
 use Rattle.trading.specs.declared.ticket.Ticket.{Ticket}
@@ -44,7 +45,7 @@ few_series l = omega (arith, length-take-le l.count l.series (omega (arith, l.fe
 pub few_rows : (f : Floor) → length (rows_on f) ≤ 256
 few_rows f = omega (arith, length-take-le f.book.resting.count f.book.resting.slots (omega (arith, f.book.resting.few, f.book.resting.whole)), f.book.resting.few)
 
-module _ {O Q S : Type 0} (o : screen.Ghosts O) (q : screen.Ghosts Q) (k : quoting.Ghosts Q) (s : source.Ghosts S) (m : Market O Q S) where
+module _ {O Q S : Type 0} (o : screen.Ghosts O) (q : screen.Ghosts Q) (k : Q → View → Side → ℕ → Extent) (s : source.Ghosts S) (m : Market O Q S) where
   -- what the tests of an order leave
   pub record Clear (trades : Roll Trade) (withdrawals : Roll Withdrawal) (n : ℕ) (condition : Condition) : Type 0 where
     pub trade_room : 256 ≤ room trades

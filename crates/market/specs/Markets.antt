@@ -4,8 +4,10 @@ use Rattle.rolls.specs.declared.roll.Roll.{Roll}
 use Rattle.rolls.specs.Rolls.{Gains, room}
 use Rattle.book.specs.declared.row.Trade.{Trade}
 use Rattle.book.specs.declared.row.Withdrawal.{Withdrawal}
+use Rattle.screens.specs.declared.view.View.{View}
+use Rattle.screens.specs.declared.view.Extent.{Extent}
+use Rattle.values.specs.declared.side.Side.{Side}
 use Rattle.screens.specs.declared.screen.Screen as screen
-use Rattle.screens.specs.declared.screen.QuoteScreen as quoting
 use Rattle.sources.specs.declared.PriceSource as source
 use Rattle.sources.specs.Sources.{reference_of}
 use Rattle.trading.specs.Journals.{trades_of, withdrawals_of}
@@ -23,9 +25,9 @@ use Rattle.market.specs.Calls.{step}
 abbrev pub room_of : Roll Trade → Roll Withdrawal → Room
 room_of trades withdrawals = record { trades = room trades; withdrawals = room withdrawals }
 
-module _ {O Q S : Type 0} (o : screen.Ghosts O) (q : screen.Ghosts Q) (k : quoting.Ghosts Q) (s : source.Ghosts S) where
+module _ {O Q S : Type 0} (o : screen.Ghosts O) (q : screen.Ghosts Q) (k : Q → View → Side → ℕ → Extent) (s : source.Ghosts S) where
   abbrev pub making : Market O Q S → Making
-  making m = record { series = listed m.listing; orders = o.meaning m.orders; quotes = q.meaning m.quotes; extent = k.extent m.quotes; live = s.live m.source }
+  making m = record { series = listed m.listing; orders = o.meaning m.orders; quotes = q.meaning m.quotes; extent = k m.quotes; live = s.live m.source }
 
   abbrev pub state : Market O Q S → State
   state m = record {

@@ -34,7 +34,7 @@ impl<O: Screen, Q: QuoteScreen, S: PriceSource> Market<O, Q, S> {
     // What a screen is shown of a series.
     fn view(&self, series: u32) -> View
         requires { series < length (listed self.now.listing) }
-        ensures { result ≡ view_in (making O.Screen Q.Screen Q.QuoteScreen S.PriceSource self.now) (state O.Screen Q.Screen Q.QuoteScreen S.PriceSource self.now) series }
+        ensures { result ≡ view_in (making O.Screen Q.Screen Q.extent S.PriceSource self.now) (state O.Screen Q.Screen Q.extent S.PriceSource self.now) series }
     {
         let class = self.listing.class_of(series as u8);
         let (kind, strike) = self.listing.terms_of(series as u8);

@@ -19,7 +19,7 @@ impl<O: Screen, Q: QuoteScreen, S: PriceSource> Market<O, Q, S> {
         trades: &mut Roll<Trade>,
         withdrawals: &mut Roll<Withdrawal>,
     ) -> Result<u32, Refusal>
-        ensures { Does O.Screen Q.Screen Q.QuoteScreen S.PriceSource self.old self.new call result trades.old trades.new withdrawals.old withdrawals.new }
+        ensures { Does O.Screen Q.Screen Q.extent S.PriceSource self.old self.new call result trades.old trades.new withdrawals.old withdrawals.new }
     {
         match call {
             Call::Nbbo { series, bid, offer } => self.set_nbbo(series, bid, offer),

@@ -37,7 +37,7 @@ impl<O: Screen, Q: QuoteScreen, S: PriceSource> Market<O, Q, S> {
         trades: &mut Roll<Trade>,
         withdrawals: &mut Roll<Withdrawal>,
     ) -> Result<u32, Refusal>
-        ensures { ComesWith O.Screen Q.Screen Q.QuoteScreen S.PriceSource self.old self.new result (step_withdraw (making O.Screen Q.Screen Q.QuoteScreen S.PriceSource self.old) (state O.Screen Q.Screen Q.QuoteScreen S.PriceSource self.old) (room_of trades.old withdrawals.old) number) trades.old trades.new withdrawals.old withdrawals.new }
+        ensures { ComesWith O.Screen Q.Screen Q.extent S.PriceSource self.old self.new result (step_withdraw (making O.Screen Q.Screen Q.extent S.PriceSource self.old) (state O.Screen Q.Screen Q.extent S.PriceSource self.old) (room_of trades.old withdrawals.old) number) trades.old trades.new withdrawals.old withdrawals.new }
     {
         if is_tight(trades, withdrawals) {
             return Err(Refusal::Rows);
@@ -56,7 +56,7 @@ impl<O: Screen, Q: QuoteScreen, S: PriceSource> Market<O, Q, S> {
         trades: &mut Roll<Trade>,
         withdrawals: &mut Roll<Withdrawal>,
     ) -> Result<u32, Refusal>
-        ensures { ComesWith O.Screen Q.Screen Q.QuoteScreen S.PriceSource self.old self.new result (step_clock (making O.Screen Q.Screen Q.QuoteScreen S.PriceSource self.old) (state O.Screen Q.Screen Q.QuoteScreen S.PriceSource self.old) (room_of trades.old withdrawals.old) ms) trades.old trades.new withdrawals.old withdrawals.new }
+        ensures { ComesWith O.Screen Q.Screen Q.extent S.PriceSource self.old self.new result (step_clock (making O.Screen Q.Screen Q.extent S.PriceSource self.old) (state O.Screen Q.Screen Q.extent S.PriceSource self.old) (room_of trades.old withdrawals.old) ms) trades.old trades.new withdrawals.old withdrawals.new }
     {
         if is_tight(trades, withdrawals) {
             return Err(Refusal::Rows);
@@ -78,7 +78,7 @@ impl<O: Screen, Q: QuoteScreen, S: PriceSource> Market<O, Q, S> {
         trades: &Roll<Trade>,
         withdrawals: &Roll<Withdrawal>,
     ) -> Option<Refusal>
-        ensures { result ≡ first (tests_order (making O.Screen Q.Screen Q.QuoteScreen S.PriceSource self.now) (state O.Screen Q.Screen Q.QuoteScreen S.PriceSource self.now) (room_of trades.now withdrawals.now) series price size condition) }
+        ensures { result ≡ first (tests_order (making O.Screen Q.Screen Q.extent S.PriceSource self.now) (state O.Screen Q.Screen Q.extent S.PriceSource self.now) (room_of trades.now withdrawals.now) series price size condition) }
     {
         if is_tight(trades, withdrawals) {
             return Some(Refusal::Rows);
@@ -107,7 +107,7 @@ impl<O: Screen, Q: QuoteScreen, S: PriceSource> Market<O, Q, S> {
     // A limit order is screened, a market order is not.
     fn screens(&self, series: u32, side: Side, price: OrderPrice) -> Verdict
         requires { series < length (listed self.now.listing) }
-        ensures { result ≡ screening (making O.Screen Q.Screen Q.QuoteScreen S.PriceSource self.now) (state O.Screen Q.Screen Q.QuoteScreen S.PriceSource self.now) series side price }
+        ensures { result ≡ screening (making O.Screen Q.Screen Q.extent S.PriceSource self.now) (state O.Screen Q.Screen Q.extent S.PriceSource self.now) series side price }
     {
         match price {
             OrderPrice::Market => Verdict::Pass,
@@ -143,8 +143,8 @@ impl<O: Screen, Q: QuoteScreen, S: PriceSource> Market<O, Q, S> {
         trades: &mut Roll<Trade>,
         withdrawals: &mut Roll<Withdrawal>,
     ) -> u32
-        requires { first (tests_order (making O.Screen Q.Screen Q.QuoteScreen S.PriceSource self.old) (state O.Screen Q.Screen Q.QuoteScreen S.PriceSource self.old) (room_of trades.old withdrawals.old) series price size condition) ≡ None }
-        ensures { ComesWith O.Screen Q.Screen Q.QuoteScreen S.PriceSource self.old self.new (Ok result) (taken_order (making O.Screen Q.Screen Q.QuoteScreen S.PriceSource self.old) (state O.Screen Q.Screen Q.QuoteScreen S.PriceSource self.old) series side price size condition) trades.old trades.new withdrawals.old withdrawals.new }
+        requires { first (tests_order (making O.Screen Q.Screen Q.extent S.PriceSource self.old) (state O.Screen Q.Screen Q.extent S.PriceSource self.old) (room_of trades.old withdrawals.old) series price size condition) ≡ None }
+        ensures { ComesWith O.Screen Q.Screen Q.extent S.PriceSource self.old self.new (Ok result) (taken_order (making O.Screen Q.Screen Q.extent S.PriceSource self.old) (state O.Screen Q.Screen Q.extent S.PriceSource self.old) series side price size condition) trades.old trades.new withdrawals.old withdrawals.new }
     {
         let number = self.floor.next();
         let limit = price.limit(side);
@@ -180,7 +180,7 @@ impl<O: Screen, Q: QuoteScreen, S: PriceSource> Market<O, Q, S> {
         trades: &mut Roll<Trade>,
         withdrawals: &mut Roll<Withdrawal>,
     ) -> Result<u32, Refusal>
-        ensures { ComesWith O.Screen Q.Screen Q.QuoteScreen S.PriceSource self.old self.new result (step_order (making O.Screen Q.Screen Q.QuoteScreen S.PriceSource self.old) (state O.Screen Q.Screen Q.QuoteScreen S.PriceSource self.old) (room_of trades.old withdrawals.old) series side price size condition) trades.old trades.new withdrawals.old withdrawals.new }
+        ensures { ComesWith O.Screen Q.Screen Q.extent S.PriceSource self.old self.new result (step_order (making O.Screen Q.Screen Q.extent S.PriceSource self.old) (state O.Screen Q.Screen Q.extent S.PriceSource self.old) (room_of trades.old withdrawals.old) series side price size condition) trades.old trades.new withdrawals.old withdrawals.new }
     {
         if let Some(refusal) = self.refuses_order(
             series,

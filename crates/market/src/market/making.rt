@@ -24,7 +24,7 @@ impl<O: Screen, Q: QuoteScreen, S: PriceSource> Market<O, Q, S> {
     // The clock stands at 0, the book is empty, every width goes by the ladder, nobody is shut out, and both sides of every series
     // are absent.
     pub fn new(listing: Listing, orders: O, quotes: Q, source: S) -> Self
-        ensures begins { state O.Screen Q.Screen Q.QuoteScreen S.PriceSource result ≡ fresh (reference_of (S.PriceSource.references source)) }
+        ensures begins { state O.Screen Q.Screen Q.extent S.PriceSource result ≡ fresh (reference_of (S.PriceSource.references source)) }
         ensures parts { (result.listing ≡ listing) × (result.orders ≡ orders) × (result.quotes ≡ quotes) × (result.source ≡ source) }
     {
         Market {
@@ -46,7 +46,7 @@ impl<O: Screen, Q: QuoteScreen, S: PriceSource> Market<O, Q, S> {
         bid: Option<Price>,
         offer: Option<Price>,
     ) -> Result<u32, Refusal>
-        ensures { ComesQuietly O.Screen Q.Screen Q.QuoteScreen S.PriceSource self.old self.new result (step_nbbo (making O.Screen Q.Screen Q.QuoteScreen S.PriceSource self.old) (state O.Screen Q.Screen Q.QuoteScreen S.PriceSource self.old) series bid offer) }
+        ensures { ComesQuietly O.Screen Q.Screen Q.extent S.PriceSource self.old self.new result (step_nbbo (making O.Screen Q.Screen Q.extent S.PriceSource self.old) (state O.Screen Q.Screen Q.extent S.PriceSource self.old) series bid offer) }
     {
         if series as usize >= self.listing.len() {
             return Err(Refusal::Name);
@@ -63,7 +63,7 @@ impl<O: Screen, Q: QuoteScreen, S: PriceSource> Market<O, Q, S> {
 
     // U: hands a class's event to the price source.
     pub fn tell(&mut self, class: u32, event: Event) -> Result<u32, Refusal>
-        ensures { ComesQuietly O.Screen Q.Screen Q.QuoteScreen S.PriceSource self.old self.new result (step_event (making O.Screen Q.Screen Q.QuoteScreen S.PriceSource self.old) (state O.Screen Q.Screen Q.QuoteScreen S.PriceSource self.old) class event) }
+        ensures { ComesQuietly O.Screen Q.Screen Q.extent S.PriceSource self.old self.new result (step_event (making O.Screen Q.Screen Q.extent S.PriceSource self.old) (state O.Screen Q.Screen Q.extent S.PriceSource self.old) class event) }
     {
         if class > 15 {
             return Err(Refusal::Name);
@@ -80,7 +80,7 @@ impl<O: Screen, Q: QuoteScreen, S: PriceSource> Market<O, Q, S> {
 
     // E: lets a maker quote in a class again.
     pub fn enable(&mut self, maker: u32, class: u32) -> Result<u32, Refusal>
-        ensures { ComesQuietly O.Screen Q.Screen Q.QuoteScreen S.PriceSource self.old self.new result (step_enable (making O.Screen Q.Screen Q.QuoteScreen S.PriceSource self.old) (state O.Screen Q.Screen Q.QuoteScreen S.PriceSource self.old) maker class) }
+        ensures { ComesQuietly O.Screen Q.Screen Q.extent S.PriceSource self.old self.new result (step_enable (making O.Screen Q.Screen Q.extent S.PriceSource self.old) (state O.Screen Q.Screen Q.extent S.PriceSource self.old) maker class) }
     {
         if maker > 15 || class > 15 {
             return Err(Refusal::Name);
@@ -91,7 +91,7 @@ impl<O: Screen, Q: QuoteScreen, S: PriceSource> Market<O, Q, S> {
 
     // W: puts an approved update in force, which spends it, even where the series is not listed.
     pub fn put_in_force(&mut self, update: Approved) -> Result<u32, Refusal>
-        ensures { ComesQuietly O.Screen Q.Screen Q.QuoteScreen S.PriceSource self.old self.new result (step_in_force (making O.Screen Q.Screen Q.QuoteScreen S.PriceSource self.old) (state O.Screen Q.Screen Q.QuoteScreen S.PriceSource self.old) update.series update.width) }
+        ensures { ComesQuietly O.Screen Q.Screen Q.extent S.PriceSource self.old self.new result (step_in_force (making O.Screen Q.Screen Q.extent S.PriceSource self.old) (state O.Screen Q.Screen Q.extent S.PriceSource self.old) update.series update.width) }
     {
         let series = update.series() as usize;
         if series >= self.listing.len() {
@@ -109,7 +109,7 @@ impl<O: Screen, Q: QuoteScreen, S: PriceSource> Market<O, Q, S> {
         first: u32,
         second: u32,
     ) -> Result<u32, Refusal>
-        ensures { ComesQuietly O.Screen Q.Screen Q.QuoteScreen S.PriceSource self.old self.new result (step_width (making O.Screen Q.Screen Q.QuoteScreen S.PriceSource self.old) (state O.Screen Q.Screen Q.QuoteScreen S.PriceSource self.old) series width first second) }
+        ensures { ComesQuietly O.Screen Q.Screen Q.extent S.PriceSource self.old self.new result (step_width (making O.Screen Q.Screen Q.extent S.PriceSource self.old) (state O.Screen Q.Screen Q.extent S.PriceSource self.old) series width first second) }
     {
         if series as usize >= self.listing.len() {
             return Err(Refusal::Name);

@@ -52,7 +52,7 @@ impl<O: Screen, Q: QuoteScreen, S: PriceSource> Market<O, Q, S> {
         trades: &Roll<Trade>,
         withdrawals: &Roll<Withdrawal>,
     ) -> Option<Refusal>
-        ensures { result ≡ first (tests_quote (making O.Screen Q.Screen Q.QuoteScreen S.PriceSource self.now) (state O.Screen Q.Screen Q.QuoteScreen S.PriceSource self.now) (room_of trades.now withdrawals.now) maker series side price size) }
+        ensures { result ≡ first (tests_quote (making O.Screen Q.Screen Q.extent S.PriceSource self.now) (state O.Screen Q.Screen Q.extent S.PriceSource self.now) (room_of trades.now withdrawals.now) maker series side price size) }
     {
         if is_tight(trades, withdrawals) {
             return Some(Refusal::Rows);
@@ -94,8 +94,8 @@ impl<O: Screen, Q: QuoteScreen, S: PriceSource> Market<O, Q, S> {
         requires maker { maker < 16 }
         requires series { series < length (listed self.old.listing) }
         requires room { 128 ≤ room withdrawals.old }
-        ensures comes { Comes O.Screen Q.Screen Q.QuoteScreen S.PriceSource self.old self.new (Err result) (refused_quote (making O.Screen Q.Screen Q.QuoteScreen S.PriceSource self.old) (state O.Screen Q.Screen Q.QuoteScreen S.PriceSource self.old) extent cause maker series side) }
-        ensures gains { Gains withdrawals.old withdrawals.new (withdrawals_of (refused_quote (making O.Screen Q.Screen Q.QuoteScreen S.PriceSource self.old) (state O.Screen Q.Screen Q.QuoteScreen S.PriceSource self.old) extent cause maker series side).journal) }
+        ensures comes { Comes O.Screen Q.Screen Q.extent S.PriceSource self.old self.new (Err result) (refused_quote (making O.Screen Q.Screen Q.extent S.PriceSource self.old) (state O.Screen Q.Screen Q.extent S.PriceSource self.old) extent cause maker series side) }
+        ensures gains { Gains withdrawals.old withdrawals.new (withdrawals_of (refused_quote (making O.Screen Q.Screen Q.extent S.PriceSource self.old) (state O.Screen Q.Screen Q.extent S.PriceSource self.old) extent cause maker series side).journal) }
     {
         match extent {
             Extent::OneSide => {
@@ -135,8 +135,8 @@ impl<O: Screen, Q: QuoteScreen, S: PriceSource> Market<O, Q, S> {
         trades: &mut Roll<Trade>,
         withdrawals: &mut Roll<Withdrawal>,
     ) -> u32
-        requires { first (tests_quote (making O.Screen Q.Screen Q.QuoteScreen S.PriceSource self.old) (state O.Screen Q.Screen Q.QuoteScreen S.PriceSource self.old) (room_of trades.old withdrawals.old) maker series side price size) ≡ None }
-        ensures { ComesWith O.Screen Q.Screen Q.QuoteScreen S.PriceSource self.old self.new (Ok result) (taken_quote (making O.Screen Q.Screen Q.QuoteScreen S.PriceSource self.old) (state O.Screen Q.Screen Q.QuoteScreen S.PriceSource self.old) maker series side price size) trades.old trades.new withdrawals.old withdrawals.new }
+        requires { first (tests_quote (making O.Screen Q.Screen Q.extent S.PriceSource self.old) (state O.Screen Q.Screen Q.extent S.PriceSource self.old) (room_of trades.old withdrawals.old) maker series side price size) ≡ None }
+        ensures { ComesWith O.Screen Q.Screen Q.extent S.PriceSource self.old self.new (Ok result) (taken_quote (making O.Screen Q.Screen Q.extent S.PriceSource self.old) (state O.Screen Q.Screen Q.extent S.PriceSource self.old) maker series side price size) trades.old trades.new withdrawals.old withdrawals.new }
     {
         self.floor.withdraw(
             &OnSide {
@@ -171,7 +171,7 @@ impl<O: Screen, Q: QuoteScreen, S: PriceSource> Market<O, Q, S> {
         trades: &mut Roll<Trade>,
         withdrawals: &mut Roll<Withdrawal>,
     ) -> Result<u32, Refusal>
-        ensures { ComesWith O.Screen Q.Screen Q.QuoteScreen S.PriceSource self.old self.new result (step_quote (making O.Screen Q.Screen Q.QuoteScreen S.PriceSource self.old) (state O.Screen Q.Screen Q.QuoteScreen S.PriceSource self.old) (room_of trades.old withdrawals.old) maker series side price size) trades.old trades.new withdrawals.old withdrawals.new }
+        ensures { ComesWith O.Screen Q.Screen Q.extent S.PriceSource self.old self.new result (step_quote (making O.Screen Q.Screen Q.extent S.PriceSource self.old) (state O.Screen Q.Screen Q.extent S.PriceSource self.old) (room_of trades.old withdrawals.old) maker series side price size) trades.old trades.new withdrawals.old withdrawals.new }
     {
         if let Some(refusal) = self.refuses_quote(
             maker,

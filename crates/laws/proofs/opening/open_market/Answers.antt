@@ -5,7 +5,7 @@ use Rattle.laws.proofs.opening.open_market.Goals as goal
 
 pub returns : goal.returns
 returns g c = record {
-  lawful = every_history_lawful (making g.O.Screen g.Q.Screen g.Q.QuoteScreen g.S.PriceSource) (state g.O.Screen g.Q.Screen g.Q.QuoteScreen g.S.PriceSource) (reference_of (g.S.PriceSource.references c.args.source)) c.new.result
+  lawful = every_history_lawful (making g.O.Screen g.Q.Screen g.Q.QuoteScreen.extent g.S.PriceSource) (state g.O.Screen g.Q.Screen g.Q.QuoteScreen.extent g.S.PriceSource) (reference_of (g.S.PriceSource.references c.args.source)) c.new.result
       (g.met.O.Screen.of_screens c.new.result.orders) (g.met.Q.Screen.of_screens c.new.result.quotes) c.new.ensures.begins;
   parts = c.new.ensures.parts;
 }

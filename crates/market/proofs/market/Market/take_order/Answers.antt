@@ -17,7 +17,7 @@ use Rattle.market.proofs.market.Market.take_order.Goals as goal
 pub enter-requires : goal.enter-requires
 enter-requires g c =
     let m = c.args.self.now in
-    let clear = order_clear g.O.Screen g.Q.Screen g.Q.QuoteScreen g.S.PriceSource m c.args.trades.now c.args.withdrawals.now c.args.series c.args.price c.args.size c.args.condition c.requires in
+    let clear = order_clear g.O.Screen g.Q.Screen g.Q.QuoteScreen.extent g.S.PriceSource m c.args.trades.now c.args.withdrawals.now c.args.series c.args.price c.args.size c.args.condition c.requires in
     let place : length (rows_on m.floor) < 256 = clear.place c.in-Day.is in
     let ticket : Ticket = record { number = c.next-number.result; series = c.args.series; side = c.args.side; limit = c.limit-limit.result; size = c.args.size; maker = None } in
     record {
@@ -33,7 +33,7 @@ enter-requires g c =
 pub enter_now-requires : goal.enter_now-requires
 enter_now-requires g c =
     let m = c.args.self.now in
-    let clear = order_clear g.O.Screen g.Q.Screen g.Q.QuoteScreen g.S.PriceSource m c.args.trades.now c.args.withdrawals.now c.args.series c.args.price c.args.size c.args.condition c.requires in
+    let clear = order_clear g.O.Screen g.Q.Screen g.Q.QuoteScreen.extent g.S.PriceSource m c.args.trades.now c.args.withdrawals.now c.args.series c.args.price c.args.size c.args.condition c.requires in
     record {
       room = omega (arith, clear.trade_room, few_rows m.floor);
       spare = omega (arith, clear.withdrawal_room);
@@ -43,5 +43,5 @@ enter_now-requires g c =
 pub returns-in-Day : goal.returns-in-Day
 returns-in-Day g c =
     let m = c.args.self.now in
-    subst (λ (x : Condition). ComesWith g.O.Screen g.Q.Screen g.Q.QuoteScreen g.S.PriceSource m (on_floor g.O.Screen g.Q.Screen g.Q.QuoteScreen g.S.PriceSource m c.enter.new.self) (Ok c.next-number.result) (taken_order (making g.O.Screen g.Q.Screen g.Q.QuoteScreen g.S.PriceSource m) (state g.O.Screen g.Q.Screen g.Q.QuoteScreen g.S.PriceSource m) c.args.series c.args.side c.args.price c.args.size x) c.args.trades.now c.enter.new.trades c.args.withdrawals.now c.args.withdrawals.now) (sym c.in-Day.is)
-    (day_taken g.O.Screen g.Q.Screen g.Q.QuoteScreen g.S.PriceSource m c.enter.new.self c.next-number.result c.args.series c.args.side c.args.price c.args.size c.limit-limit.result c.args.trades.now c.enter.new.trades c.args.withdrawals.now c.prices-pricing.result c.next-number.ensures c.limit-limit.ensures c.prices-pricing.ensures c.enter.ensures.did c.enter.ensures.leaves)
+    subst (λ (x : Condition). ComesWith g.O.Screen g.Q.Screen g.Q.QuoteScreen.extent g.S.PriceSource m (on_floor g.O.Screen g.Q.Screen g.Q.QuoteScreen.extent g.S.PriceSource m c.enter.new.self) (Ok c.next-number.result) (taken_order (making g.O.Screen g.Q.Screen g.Q.QuoteScreen.extent g.S.PriceSource m) (state g.O.Screen g.Q.Screen g.Q.QuoteScreen.extent g.S.PriceSource m) c.args.series c.args.side c.args.price c.args.size x) c.args.trades.now c.enter.new.trades c.args.withdrawals.now c.args.withdrawals.now) (sym c.in-Day.is)
+    (day_taken g.O.Screen g.Q.Screen g.Q.QuoteScreen.extent g.S.PriceSource m c.enter.new.self c.next-number.result c.args.series c.args.side c.args.price c.args.size c.limit-limit.result c.args.trades.now c.enter.new.trades c.args.withdrawals.now c.prices-pricing.result c.next-number.ensures c.limit-limit.ensures c.prices-pricing.ensures c.enter.ensures.did c.enter.ensures.leaves)

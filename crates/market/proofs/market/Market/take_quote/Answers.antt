@@ -13,13 +13,13 @@ use Rattle.market.proofs.market.Market.take_quote.Goals as goal
 pub withdraw-requires : goal.withdraw-requires
 withdraw-requires g c =
     let m = c.args.self.now in
-    let clear = quote_clear g.O.Screen g.Q.Screen g.Q.QuoteScreen g.S.PriceSource m c.args.trades.now c.args.withdrawals.now c.args.maker c.args.series c.args.side c.args.price c.args.size (sym c.requires) in
+    let clear = quote_clear g.O.Screen g.Q.Screen g.Q.QuoteScreen.extent g.S.PriceSource m c.args.trades.now c.args.withdrawals.now c.args.maker c.args.series c.args.side c.args.price c.args.size (sym c.requires) in
     omega (arith, clear.withdrawal_room, side_one c.args.maker c.args.series c.args.side (rows_on m.floor) m.floor.book.resting.sound)
 
 pub enter-requires : goal.enter-requires
 enter-requires g c =
     let m = c.args.self.now in
-    let clear = quote_clear g.O.Screen g.Q.Screen g.Q.QuoteScreen g.S.PriceSource m c.args.trades.now c.args.withdrawals.now c.args.maker c.args.series c.args.side c.args.price c.args.size (sym c.requires) in
+    let clear = quote_clear g.O.Screen g.Q.Screen g.Q.QuoteScreen.extent g.S.PriceSource m c.args.trades.now c.args.withdrawals.now c.args.maker c.args.series c.args.side c.args.price c.args.size (sym c.requires) in
     let ticket : Ticket = record { number = c.next-number.result; series = c.args.series; side = c.args.side; limit = c.args.price; size = c.args.size; maker = Some c.args.maker } in
     let rests = sym c.withdraw.ensures.did.rests in
     let place : length (rows_on c.withdraw.new.self) < 256 = subst (λ (rs : List Row). length rs < 256) rests (side_place c.args.maker c.args.series c.args.side m.floor clear.place) in
@@ -35,5 +35,5 @@ enter-requires g c =
 
 pub returns : goal.returns
 returns g c =
-    quote_comes g.O.Screen g.Q.Screen g.Q.QuoteScreen g.S.PriceSource c.args.self.now c.args.maker c.args.series c.args.side c.args.price c.args.size c.withdraw.new.self c.enter.new.self c.next-number.result c.args.trades.now c.enter.new.trades c.args.withdrawals.now c.withdraw.new.withdrawals
+    quote_comes g.O.Screen g.Q.Screen g.Q.QuoteScreen.extent g.S.PriceSource c.args.self.now c.args.maker c.args.series c.args.side c.args.price c.args.size c.withdraw.new.self c.enter.new.self c.next-number.result c.args.trades.now c.enter.new.trades c.args.withdrawals.now c.withdraw.new.withdrawals
     c.next-number.ensures c.withdraw.ensures.did c.withdraw.ensures.leaves c.enter.ensures.did c.enter.ensures.leaves

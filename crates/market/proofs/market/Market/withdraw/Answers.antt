@@ -12,5 +12,5 @@ withdraw-requires g c =
 
 pub returns : goal.returns
 returns g c =
-    withdraw_comes g.O.Screen g.Q.Screen g.Q.QuoteScreen g.S.PriceSource c.args.self.now c.withdraw.new.self c.args.number c.args.trades.now c.args.withdrawals.now c.withdraw.new.withdrawals
+    withdraw_comes g.O.Screen g.Q.Screen g.Q.QuoteScreen.extent g.S.PriceSource c.args.self.now c.withdraw.new.self c.args.number c.args.trades.now c.args.withdrawals.now c.withdraw.new.withdrawals
     (sym c.is_tight.ensures ∙ c.if-is_tight.false) (some_lacks _ (subst (λ (o : Option Row). is_some o ≡ true) c.row.ensures c.if-is_none.ensures)) c.withdraw.ensures.did c.withdraw.ensures.leaves
