@@ -1,6 +1,6 @@
 -- How a taker goes down the rows: one trade, the end, what adds up, and the rule.
 use Rattle.std.proofs.Common.{◌≡◌, ℕ, zero, suc, ◌+◌, ◌-◌, ◌<◌, ◌≤◌, min, Bool, true, false, cond, not, ◌&&◌, ◌||◌, eqb, ltb, leb, ◌⊎◌, List, [], ◌∷◌, ◌++◌, reverse, length, Some, None, Option, sym, refl, ap, ◌∙◌, subst, inl, inr, ⊎_elim, arith}
-use Rattle.std.specs.List.{AllByRecursion as All}
+use Rattle.std.specs.List.{AllByRecursion}
 use Rattle.std.proofs.lemmas.List.{reverse-append, reverse-reverse, append_assoc}
 use Rattle.std.proofs.lemmas.Bool.{and_parts, and_from, and_left, cond-true, cond-false, cond_both, both_ways, ltb-true, eq-eqb, leb-true, leb-false}
 use Rattle.std.proofs.lemmas.Bool.Decides.{nat_tests}
@@ -290,21 +290,21 @@ take_few due t n rs = omega (arith, few due t n rs [])
 
 -- ---- what holds of each trade
 
-note_all : (P : Trade → Type 0) (q : ℕ) (e : Trade) (j : List Trade) → (0 < q → P e) → All P j → All P (note q e j)
+note_all : (P : Trade → Type 0) (q : ℕ) (e : Trade) (j : List Trade) → (0 < q → P e) → AllByRecursion P j → AllByRecursion P (note q e j)
 note_all P zero e j h all = all
 note_all P (suc q) e j h all = (h (omega arith), all)
 
 amount_reached : (t : Taker) (n : ℕ) (r : Row) → 0 < amount t n r → in_reach t r ≡ true
 amount_reached t n r p = decide (in_reach t r) (λ e. e) (λ e. let z = amount_out t n r e in absurd (omega arith))
 
-take_all : (P : Trade → Type 0) (due : ℕ) (t : Taker) (n : ℕ) (rs : List Row) (j : List Trade) → ((r : Row) → Has r rs → in_reach t r ≡ true → (q : ℕ) → 0 < q → q ≤ r.size → P (trade_with t q r)) → All P j → All P (take due t n rs j).trades
+take_all : (P : Trade → Type 0) (due : ℕ) (t : Taker) (n : ℕ) (rs : List Row) (j : List Trade) → ((r : Row) → Has r rs → in_reach t r ≡ true → (q : ℕ) → 0 < q → q ≤ r.size → P (trade_with t q r)) → AllByRecursion P j → AllByRecursion P (take due t n rs j).trades
 unfolding take
 take_all P due t n [] j h all = all
 take_all P due t n (r ∷ rs) j h all =
     let q = amount t n r in
     take_all P due t (n - q) rs (note q (trade_with t q r) j) (λ x i. h x (inr i)) (note_all P q (trade_with t q r) j (λ p. h r (inl refl) (amount_reached t n r p) q p (amount_size t n r)) all)
 
-pub take_fair : (due : ℕ) (t : Taker) (n : ℕ) (rs : List Row) → All (Fair t rs) (take due t n rs []).trades
+pub take_fair : (due : ℕ) (t : Taker) (n : ℕ) (rs : List Row) → AllByRecursion (Fair t rs) (take due t n rs []).trades
 take_fair due t n rs = take_all (Fair t rs) due t n rs [] (λ r i e q p l. (r, i, e, p, l, refl)) tt
 
 -- ---- the rule

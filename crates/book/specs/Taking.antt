@@ -1,6 +1,6 @@
 -- How a taker trades down the rows.
 use Rattle.std.specs.Prelude.{◌≡◌, ℕ, zero, suc, ◌+◌, ◌-◌, ◌<◌, ◌≤◌, min, Bool, true, false, cond, ◌⊎◌, List, [], ◌∷◌, reverse, length}
-use Rattle.std.specs.List.{AllByRecursion as All}
+use Rattle.std.specs.List.{AllByRecursion}
 use Rattle.rolls.specs.Rolls.{Gains}
 use Rattle.rolls.specs.declared.roll.Roll.{Roll}
 use Rattle.book.specs.declared.row.Row.{Row}
@@ -72,7 +72,7 @@ pub record Took (due : ℕ) (t : Taker) (n left : ℕ) (before after : List Row)
   pub gains : Gains roll₀ roll (reverse (take due t n before []).trades)
   -- it follows the rule
   pub rule : Takes due t (take due t n before []) n before []
-  pub fair : All (Fair t before) (take due t n before []).trades
+  pub fair : AllByRecursion (Fair t before) (take due t n before []).trades
   -- no contract is made or lost
   pub adds : traded (take due t n before []).trades + left ≡ n
   -- each trade but the last takes a row away

@@ -1,6 +1,6 @@
 -- The eight prices at the edge: what lies on either side of each bound, by the check or the definition that it names alone.
 use Rattle.std.specs.Prelude.{◌≡◌, ℕ, List, [], ◌∷◌, Some, None, Option}
-use Rattle.std.specs.List.{AllByRecursion as All}
+use Rattle.std.specs.List.{AllByRecursion}
 use Rattle.values.specs.declared.order.Kind.{Kind}
 use Rattle.values.specs.declared.order.Kind.TheVariants.{Call, Put}
 use Rattle.values.specs.declared.order.OrderPrice.{OrderPrice}
@@ -71,4 +71,4 @@ edges =
     ∷ []
 
 abbrev pub EdgesHold : Type 0
-EdgesHold = All (All Holds) edges
+EdgesHold = AllByRecursion (AllByRecursion Holds) edges

@@ -1,6 +1,6 @@
 -- A limit order is refused for the published causes alone.
 use Rattle.std.proofs.Common.{◌≡◌, ℕ, suc, ◌-◌, ◌≤◌, Bool, true, false, leb, ◌⊎◌, List, [], ◌∷◌, length, Some, None, Err, Option, sym, refl, ap, ◌∙◌, subst, inl, inr, ⊎_elim, arith}
-use Rattle.std.specs.List.{AllByRecursion as All}
+use Rattle.std.specs.List.{AllByRecursion}
 use Rattle.std.proofs.lemmas.Bool.{leb-true, ltb-true, and_parts, or_cases}
 use Rattle.values.specs.declared.order.OrderPrice.TheVariants.{Limit}
 use Rattle.values.specs.declared.order.Condition.{Condition}
@@ -41,7 +41,7 @@ module _ (m : Making) (refs : ℕ → Reference) {st : State} {h : History} (ok 
   numbers_many [] = refl
   numbers_many (r ∷ rs) = ap suc (numbers_many rs)
 
-  numbers_all : (P : ℕ → Type 0) (rs : List Row) → ((r : Row) → Has r rs → P r.number) → All P (numbers_of rs)
+  numbers_all : (P : ℕ → Type 0) (rs : List Row) → ((r : Row) → Has r rs → P r.number) → AllByRecursion P (numbers_of rs)
   unfolding numbers_of
   numbers_all P [] h = tt
   numbers_all P (r ∷ rs) h = (h r (inl refl), numbers_all P rs (λ q i. h q (inr i)))

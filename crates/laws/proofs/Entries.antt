@@ -1,6 +1,6 @@
 -- What holds of each entry of a run, and of each event of a journal.
 use Rattle.std.proofs.Common.{◌≡◌, ℕ, List, [], ◌∷◌, ◌++◌, subst, arith}
-use Rattle.std.specs.List.{AllByRecursion as All}
+use Rattle.std.specs.List.{AllByRecursion}
 use Rattle.values.specs.declared.reference.Reference.{Reference}
 use Rattle.trading.specs.Journals.{Event}
 use Rattle.market.specs.States.{Making}
@@ -8,7 +8,7 @@ use Rattle.market.specs.Calls.{step}
 use Rattle.laws.specs.Histories.{Entry, History}
 use Rattle.laws.specs.Runs.{Asked, entry_of, run}
 
-pub all_at : (P : Event → Type 0) (later : List Event) (x : Event) (earlier : List Event) → All P (later ++ (x ∷ earlier)) → P x
+pub all_at : (P : Event → Type 0) (later : List Event) (x : Event) (earlier : List Event) → AllByRecursion P (later ++ (x ∷ earlier)) → P x
 all_at P [] x earlier a = a.0
 all_at P (y ∷ later) x earlier a = all_at P later x earlier a.1
 

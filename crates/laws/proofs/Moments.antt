@@ -1,6 +1,6 @@
 -- The moments at which a held order falls due lie a second apart.
 use Rattle.std.proofs.Common.{◌≡◌, ℕ, ◌+◌, ◌-◌, ◌*◌, ◌/◌, ◌<◌, ◌≤◌, Bool, true, false, cond, eqb, ltb, ◌⊎◌, List, [], ◌∷◌, ◌++◌, length, Some, None, Option, sym, refl, ap, ◌∙◌, subst, inl, inr, ⊎_elim, arith}
-use Rattle.std.specs.List.{AllByRecursion as All}
+use Rattle.std.specs.List.{AllByRecursion}
 use Rattle.std.proofs.lemmas.Bool.{ltb-false, eqb-true, or_parts, cond_both}
 use Rattle.values.specs.declared.order.OrderPrice.{OrderPrice}
 use Rattle.values.specs.declared.order.Condition.{Condition}
@@ -56,14 +56,14 @@ Stretch a o c = (c ≡ 0) ⊎ ((d : ℕ) × (D : ℕ) × (a < d) × (o ≡ Some 
 -- the moments so far lie a second before the next
 abbrev Next : Option ℕ → List ℕ → Type 0
 Next None ds = ds ≡ []
-Next (Some d) ds = All (λ x. x + 1000 ≤ d) ds
+Next (Some d) ds = AllByRecursion (λ x. x + 1000 ≤ d) ds
 
-all_more : (a b : ℕ) (ds : List ℕ) → a ≤ b → All (λ x. x + 1000 ≤ a) ds → All (λ x. x + 1000 ≤ b) ds
+all_more : (a b : ℕ) (ds : List ℕ) → a ≤ b → AllByRecursion (λ x. x + 1000 ≤ a) ds → AllByRecursion (λ x. x + 1000 ≤ b) ds
 all_more a b [] le h = tt
 all_more a b (d ∷ ds) le h = (let x = h.0 in omega arith, all_more a b ds le h.1)
 
 next_later : (o : Option ℕ) (b : ℕ) (ds : List ℕ) → Below o b → Next o ds → Next (Some b) ds
-next_later None b ds l h = subst (λ (y : List ℕ). All (λ x. x + 1000 ≤ b) y) (sym h) tt
+next_later None b ds l h = subst (λ (y : List ℕ). AllByRecursion (λ x. x + 1000 ≤ b) y) (sym h) tt
 next_later (Some d) b ds l h = all_more d b ds l h
 
 stretch_later : (a : ℕ) (o : Option ℕ) (b c : ℕ) → Below o b → Stretch a o c → Stretch a (Some b) c
@@ -147,7 +147,7 @@ module _ (n k low : ℕ) (was : ℕ → Option ℕ) (late : low ≤ k) (soon : B
       let one : cond {A = ℕ} (eqb i n) 1 0 ≡ 1 = rw e in
       let now : cond (eqb i n) (second_later (D j)) (D j) ≡ Some (d.0 + 1000) = rw e (ap second_later d.1) in
       let list : note_moment (eqb i n) (D j) old ≡ d.0 ∷ old = rw (e, d.1) in
-      let below-it : All (λ x. x + 1000 ≤ d.0) old = subst (λ (o : Option ℕ). Next o old) d.1 far.2 in
+      let below-it : AllByRecursion (λ x. x + 1000 ≤ d.0) old = subst (λ (o : Option ℕ). Next o old) d.1 far.2 in
       let count = far.0 in
       subst (λ (o : Option ℕ). Apart o (cond (eqb i n) 1 0 + times_moved n j + c) (note_moment (eqb i n) (D j) old)) (sym now)
       (subst (λ (l : List ℕ). Apart (Some (d.0 + 1000)) (cond (eqb i n) 1 0 + times_moved n j + c) l) (sym list)

@@ -1,6 +1,6 @@
 -- Which calls bring which events.
 use Rattle.std.proofs.Common.{◌≡◌, ℕ, zero, suc, ◌+◌, Bool, true, List, [], ◌∷◌, Some, None, Ok, Err, Option, refl}
-use Rattle.std.specs.List.{AllByRecursion as All}
+use Rattle.std.specs.List.{AllByRecursion}
 use Rattle.std.proofs.lemmas.Bool.{eq-eqb}
 use Rattle.values.specs.declared.order.Condition.{Condition}
 use Rattle.values.specs.declared.order.Condition.TheVariants.{Day, Immediate}
@@ -46,9 +46,9 @@ Proper c a (Withdrawn w) = Unit {0}
 -- P holds of every trade and every withdrawal
 module _ (P : Event → Type 0) (traded : (t : Trade) → P (Traded t)) (gone : (w : Withdrawal) → P (Withdrawn w)) where
   abbrev Fine : Desk → Type 0
-  Fine d = All P d.journal
+  Fine d = AllByRecursion P d.journal
 
-  noted : (ts : List Trade) (j : List Event) → All P j → All P (noting ts j)
+  noted : (ts : List Trade) (j : List Event) → AllByRecursion P j → AllByRecursion P (noting ts j)
   noted [] j h = h
   noted (t ∷ ts) j h = (traded t, noted ts j h)
 
@@ -68,17 +68,17 @@ module _ (P : Event → Type 0) (traded : (t : Trade) → P (Traded t)) (gone : 
         d (ok, h)).1
 
   module _ (t : Ticket) (shown : (p : ℕ) → P (Shown t.number p)) where
-    firstly : (p : Pricing) (j : List Event) → All P j → All P (show_first t p j)
+    firstly : (p : Pricing) (j : List Event) → AllByRecursion P j → AllByRecursion P (show_first t p j)
     firstly (AtLimit l) j h = h
     firstly (Wide x reach c) j h = (shown x, h)
     firstly (Narrow x reach c) j h = h
 
-    lastly : (p : Pricing) (s : ℕ) (j : List Event) → All P j → All P (show_last t p s j)
+    lastly : (p : Pricing) (s : ℕ) (j : List Event) → AllByRecursion P j → AllByRecursion P (show_last t p s j)
     lastly (AtLimit l) s j h = (shown s, h)
     lastly (Wide x reach c) s j h = h
     lastly (Narrow x reach c) s j h = (shown s, h)
 
-    rested : (due : ℕ) (p : Pricing) (f : Fill) (n : ℕ) (j : List Event) → All P j → Fine (rest due t p f n j)
+    rested : (due : ℕ) (p : Pricing) (f : Fill) (n : ℕ) (j : List Event) → AllByRecursion P j → Fine (rest due t p f n j)
     unfolding rest
     rested due p f zero j h = h
     rested due p f (suc n) j h = lastly p _ j h
@@ -87,7 +87,7 @@ module _ (P : Event → Type 0) (traded : (t : Trade) → P (Traded t)) (gone : 
     unfolding enter
     entered due p d h = served due t.series _ (rested due p _ _ _ (noted _ _ (firstly p d.journal h)))
 
-    lapsed : (n : ℕ) (j : List Event) → All P j → All P (lapse t.number n j)
+    lapsed : (n : ℕ) (j : List Event) → AllByRecursion P j → AllByRecursion P (lapse t.number n j)
     lapsed zero j h = h
     lapsed (suc n) j h = (gone _, h)
 
@@ -99,7 +99,7 @@ module _ (P : Event → Type 0) (traded : (t : Trade) → P (Traded t)) (gone : 
 -- ---- the calls
 
 abbrev Noted : Call → Outcome → Type 0
-Noted c o = All (Proper c o.answer) o.journal
+Noted c o = AllByRecursion (Proper c o.answer) o.journal
 
 module _ (m : Making) (st : State) {top : ℕ} (ok : Rested top st.rows) where
   unless_noted : (c : Call) (q : Option Refusal) (o : Outcome) → Noted c o → Noted c (unless q st o)

@@ -1,7 +1,7 @@
 -- Between calls, each held order is due after the clock and within a second of it, at the moment that the history gives it; and what
 -- moves has fallen due.
 use Rattle.std.proofs.Common.{◌≡◌, ℕ, zero, suc, ◌+◌, ◌-◌, ◌<◌, ◌≤◌, Bool, true, false, eqb, ltb, List, [], ◌∷◌, ◌++◌, length, Some, None, Option, sym, refl, subst, arith}
-use Rattle.std.specs.List.{AllByRecursion as All}
+use Rattle.std.specs.List.{AllByRecursion}
 use Rattle.std.proofs.lemmas.Bool.{ltb-false, or_parts, cond_both}
 use Rattle.values.specs.declared.order.OrderPrice.{OrderPrice}
 use Rattle.values.specs.declared.order.Condition.{Condition}
@@ -60,7 +60,7 @@ module _ (k : ℕ) (was : ℕ → Option ℕ) (low : ℕ) where
   AllDue (Withdrawn w ∷ j) = AllDue j
 
   -- a call that is no T moves nothing
-  pub none_moved : (c : Call) (a : Answer) → is_clock c ≡ false → (j : List Event) → All (Proper c a) j → AllDue j
+  pub none_moved : (c : Call) (a : Answer) → is_clock c ≡ false → (j : List Event) → AllByRecursion (Proper c a) j → AllDue j
   unfolding AllDue
   none_moved c a off [] h = tt
   none_moved c a off (Shown i p ∷ j) h = none_moved c a off j h.1
@@ -256,7 +256,7 @@ module _ (m : Making) (refs : ℕ → Reference) {st : State} {h : History} (ok 
 
   -- ---- what moves has fallen due
 
-  unmoved : (c : Call) (o : Outcome) → is_clock c ≡ false → All (Proper c o.answer) o.journal → AllDue o.next.clock (λ n. due_of n h) st.clock o.journal
+  unmoved : (c : Call) (o : Outcome) → is_clock c ≡ false → AllByRecursion (Proper c o.answer) o.journal → AllDue o.next.clock (λ n. due_of n h) st.clock o.journal
   unmoved c o off a = none_moved o.next.clock (λ n. due_of n h) st.clock c o.answer off o.journal a
 
   unless_fallen : (q : Option Refusal) (o : Outcome) → (q ≡ None → AllDue o.next.clock (λ n. due_of n h) st.clock o.journal) → AllDue (unless q st o).next.clock (λ n. due_of n h) st.clock (unless q st o).journal

@@ -1,6 +1,6 @@
 -- A limit order is refused for the published causes alone.
 use Rattle.std.specs.Prelude.{◌≡◌, ℕ, ◌<◌, ◌≤◌, ◌⊎◌, List, [], ◌∷◌, length, Err, ◌≢◌}
-use Rattle.std.specs.List.{AllByRecursion as All}
+use Rattle.std.specs.List.{AllByRecursion}
 use Rattle.values.specs.declared.order.OrderPrice.TheVariants.{Limit}
 use Rattle.values.specs.declared.order.Condition.{Condition}
 use Rattle.values.specs.declared.order.Condition.TheVariants.{Day}
@@ -21,7 +21,7 @@ use Rattle.laws.specs.Runs.{Asked, run}
 -- no number stands twice
 abbrev pub Different : List ℕ → Type 0
 Different [] = Unit {0}
-Different (n ∷ ns) = All (λ i. i ≢ n) ns × Different ns
+Different (n ∷ ns) = AllByRecursion (λ i. i ≢ n) ns × Different ns
 
 abbrev pub Resting : ℕ → History → Type 0
 Resting n h = (x : Party) × Rests n x h
@@ -31,7 +31,7 @@ pub record Crowded (h : History) : Type 0 where
   pub numbers : List ℕ
   pub different : Different numbers
   pub many : 256 ≤ length numbers
-  pub resting : All (λ n. Resting n h) numbers
+  pub resting : AllByRecursion (λ n. Resting n h) numbers
 
 module _ (m : Making) (refs : ℕ → Reference) where
   -- why a limit order may be refused, by its room, series, side, limit, size and condition and by what had been seen before it

@@ -1,6 +1,6 @@
 -- When a held order falls due, and how often it moves.
 use Rattle.std.specs.Prelude.{◌≡◌, ℕ, ◌+◌, ◌-◌, ◌/◌, ◌<◌, ◌≤◌, Bool, true, false, cond, ◌⊎◌, List, [], ◌∷◌, ◌++◌, length, Some, None, Option, ◌==◌}
-use Rattle.std.specs.List.{AllByRecursion as All}
+use Rattle.std.specs.List.{AllByRecursion}
 use Rattle.values.specs.declared.reference.Reference.{Reference}
 use Rattle.screens.specs.Screens.{Lawful}
 use Rattle.book.specs.Lists.{or_else}
@@ -62,7 +62,7 @@ moments_of n (e ∷ h) = moments_in n (clock_of (e ∷ h)) e.journal (due_of n h
 -- each moment lies at least 1,000 ms after each older one
 abbrev pub SecondsApart : List ℕ → Type 0
 SecondsApart [] = Unit {0}
-SecondsApart (d ∷ ds) = All (λ x. x + 1000 ≤ d) ds × SecondsApart ds
+SecondsApart (d ∷ ds) = AllByRecursion (λ x. x + 1000 ≤ d) ds × SecondsApart ds
 
 pub record MovesTakeTheirTime (h : History) : Type 0 where
   -- what moves has fallen due since the clock stood where the call found it

@@ -1,7 +1,7 @@
 -- Entering in the code is entering by the definitions: the balance meets no row, and there is a place for it.
 use Rattle.std.proofs.Common.{◌≡◌, ℕ, zero, suc, ◌+◌, ◌-◌, ◌<◌, ◌≤◌, max, Bool, true, false, cond, not, ◌&&◌, eqb, ltb, leb, ◌⊎◌, List, [], ◌∷◌, ◌++◌, reverse, length, get_or, drop, Some, None, Option, unwrap_or, sym, refl, ap, ◌∙◌, subst, inl, inr, ⊎_elim, arith, length-append, length-drop, length-take, get_or-drop}
 use mathlib.Core.List.{reverse-cons, reverse-reverse}
-use Rattle.std.specs.List.{AllByRecursion as All}
+use Rattle.std.specs.List.{AllByRecursion}
 use Rattle.std.proofs.lemmas.Bool.{leb-true, leb-false, eqb-true, ne_eqb, eq-eqb, and_parts, and_from, and_cases, not-true, not-false, cond_both}
 use Rattle.values.specs.declared.side.Side.{Side}
 use Rattle.values.specs.Sides.{opposite, NoMoreAggressive, no_more_aggressive}
@@ -63,14 +63,14 @@ last_none xs n h = by (drop n xs) (let l = length-drop n xs in omega arith)
 
 -- ---- the display price of the balance is within the reach
 
-last_within : (t : Taker) (rs : List Row) (ts : List Trade) → All (Fair t rs) ts → (d : ℕ) → NoMoreAggressive t.side d t.reach → NoMoreAggressive t.side (unwrap_or (last_price ts) d) t.reach
+last_within : (t : Taker) (rs : List Row) (ts : List Trade) → AllByRecursion (Fair t rs) ts → (d : ℕ) → NoMoreAggressive t.side d t.reach → NoMoreAggressive t.side (unwrap_or (last_price ts) d) t.reach
 last_within t rs [] a d h = h
 last_within t rs (e ∷ es) a d h =
     let f = a.0 in
     let price : e.price ≡ f.0.display = ap (λ (x : Trade). x.price) f.5 in
     subst (λ (p : ℕ). NoMoreAggressive t.side p t.reach) (sym price) (reach_true t f.0 f.2).2
 
-pub display_within : (t : Ticket) (p : Pricing) (rs : List Row) (ts : List Trade) → displays_in_reach t p ≡ true → All (Fair (taker t (reach_of p)) rs) ts → NoMoreAggressive t.side (display_of p (last_price ts)) (reach_of p)
+pub display_within : (t : Ticket) (p : Pricing) (rs : List Row) (ts : List Trade) → displays_in_reach t p ≡ true → AllByRecursion (Fair (taker t (reach_of p)) rs) ts → NoMoreAggressive t.side (display_of p (last_price ts)) (reach_of p)
 display_within t (AtLimit limit) rs ts h a = no_more_refl t.side limit
 display_within t (Wide display reach c) rs ts h a = no_more_true t.side display reach h
 display_within t (Narrow untraded reach c) rs ts h a = last_within (taker t reach) rs ts a untraded (no_more_true t.side untraded reach h)
@@ -113,7 +113,7 @@ module _ (due : ℕ) (t : Ticket) (p : Pricing) (rs : List Row) (sound : Sound r
   abbrev display : ℕ
   display = display_of p (last_price fill.trades)
 
-  module _ (fair : All (Fair (taker t (reach_of p)) rs) fill.trades) (left : 0 < fill.left) (n : ℕ) where
+  module _ (fair : AllByRecursion (Fair (taker t (reach_of p)) rs) fill.trades) (left : 0 < fill.left) (n : ℕ) where
     old : (q : Row) → Has q fill.rows → In (face q) rs
     old q h = take_in due (taker t (reach_of p)) rs t.size [] (face q) (has_in q fill.rows h)
 

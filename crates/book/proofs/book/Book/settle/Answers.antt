@@ -37,7 +37,7 @@ invariant_of-self-then-by-row c =
     let b = c.args.self.now in
     record {
       tied =
-        part_tied (dues b) (rows b) b.tied c.args.due c.args.by c.args.number c.in-Some.row b.resting.sound.1 (sym c.in-Some.ensures.answer) (omega arith) c.if-by-row.true _ c.unlist.ensures
+          part_tied (dues b) (rows b) b.tied c.args.due c.args.by c.args.number c.in-Some.row b.resting.sound.1 (sym c.in-Some.ensures.answer) (omega arith) c.if-by-row.true _ c.unlist.ensures
           _ c.renew.ensures _ _ c.list.ensures c.settle.ensures.after;
     }
 

@@ -31,14 +31,22 @@ invariant_of-self c =
     let b = c.args.self.now in
     let at = c.first_place-at.result in
     let some = some_left c.args.due c.args.by (get_or b.slots at blank) c.in-Some.left c.in-Some.ensures in
-    record { few = b.few; whole = (simp length-set b.whole); sound = subst Sound (sym (written c.args.number b.slots b.count at c.args.due c.args.by c.in-Some.left
-    (part_at c.args.number b.slots b.count _ c.first_place-at.ensures (omega arith) c.args.due c.args.by blank (omega arith) (omega arith) some.0) some.1)) (sound_settle c.args.due c.args.by c.args.number (ranked b) b.sound) }
+    record {
+      few = b.few;
+      whole = (simp length-set b.whole);
+      sound = subst Sound (sym (written c.args.number b.slots b.count at c.args.due c.args.by c.in-Some.left
+          (part_at c.args.number b.slots b.count _ c.first_place-at.ensures (omega arith) c.args.due c.args.by blank (omega arith) (omega arith) some.0) some.1)) (sound_settle c.args.due c.args.by c.args.number (ranked b) b.sound);
+    }
 
 pub invariant_of-self-in-None : goal.invariant_of-self-in-None
 invariant_of-self-in-None c =
     let b = c.args.self.now in
-    record { few = (omega arith); whole = (omega arith); sound = subst Sound (sym (gone_at c.args.number b.slots b.count _ c.first_place-at.ensures (omega arith) c.args.due c.args.by blank _ (omega arith) (omega arith)
-    (none_left c.args.due c.args.by (get_or b.slots c.first_place-at.result blank) c.in-None.ensures) c.close_place.ensures.front)) (sound_settle c.args.due c.args.by c.args.number (ranked b) b.sound) }
+    record {
+      few = (omega arith);
+      whole = (omega arith);
+      sound = subst Sound (sym (gone_at c.args.number b.slots b.count _ c.first_place-at.ensures (omega arith) c.args.due c.args.by blank _ (omega arith) (omega arith)
+          (none_left c.args.due c.args.by (get_or b.slots c.first_place-at.result blank) c.in-None.ensures) c.close_place.ensures.front)) (sound_settle c.args.due c.args.by c.args.number (ranked b) b.sound);
+    }
 
 pub returns-in-Some : goal.returns-in-Some
 returns-in-Some c =
