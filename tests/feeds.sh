@@ -1,11 +1,15 @@
 #!/usr/bin/env bash
 # Runs guardlog on every feed of feeds/, and on the long ones that big.py writes: what it prints has to be what stands beside the feed,
-# byte for byte, whether the feed comes through standard input or as a named file. Run it after a check, which builds guardlog.
+# byte for byte, whether the feed comes through standard input or as a named file. It builds guardlog first, where that has not been done.
 set -eu
 top=$(cd "$(dirname "$0")/.." && pwd)
-guardlog=$top/target/bin/guardlog
+guardlog=$top/crates/guardlog/out/guardlog
 work=$(mktemp -d)
 trap 'rm -rf "$work"' EXIT
+(cd "$top/crates/guardlog" && rt run < /dev/null) > "$work/log" 2>&1 || {
+    cat "$work/log"
+    exit 1
+}
 passed=0
 failed=0
 compare() {

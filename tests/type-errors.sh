@@ -1,13 +1,13 @@
 #!/usr/bin/env bash
 # Edits that the compiler itself has to refuse, before anything is proved: the mistakes that the types of a Trader Update rule
-# out. A must-fail edit has to reach the prover, so these stand apart. Run it after a check, from which it takes what is proved.
+# out. A must-fail edit has to reach the prover, so these stand apart. It works on a copy without what checks have kept.
 # Each edit in type-errors/ names its crate, its file, the text to replace (which stands there once), the new text, and the
 # error that the compiler must give.
 set -eu
 top=$(cd "$(dirname "$0")/.." && pwd)
 work=$(mktemp -d)
 trap 'rm -rf "$work"' EXIT
-cp -r "$top/crates.txt" "$top/crates" "$top/target" "$work"
+tar -C "$top" --exclude=out -cf - crates.txt crates | tar -C "$work" -xf -
 status=0
 for edit in "$top"/tests/type-errors/*.edit; do
     field() { sed -n "s/^$1: //p" "$edit"; }
@@ -18,7 +18,7 @@ for edit in "$top"/tests/type-errors/*.edit; do
         if (at) $0 = substr($0, 1, at - 1) ENVIRON["NEW"] substr($0, at + length(ENVIRON["OLD"]))
         print
     }' "$top/$file" > "$work/$file"
-    if (cd "$work" && rt dev "$crate") > "$work/log" 2>&1; then
+    if (cd "$work/crates/$crate" && rt check) > "$work/log" 2>&1; then
         echo "type error $(basename "$edit" .edit): NOT REFUSED"
         status=1
     elif grep -q "error\[$(field error)\]" "$work/log"; then

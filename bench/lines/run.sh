@@ -1,9 +1,10 @@
 #!/usr/bin/env bash
 # One million mixed lines, read and written back by relines and by the same logic in plain Rust, side by side.
-# Prints the processor time of each run and the ratio of the sums. Needs rustc and a checked repository (rt check relines).
+# Prints the processor time of each run and the ratio of the sums. Needs rustc.
 set -eu
 cd "$(dirname "$0")/../.."
-relines=target/bin/relines
+(cd crates/relines && rt run < /dev/null > /dev/null)
+relines=crates/relines/out/relines
 work=$(mktemp -d)
 trap 'rm -rf "$work"' EXIT
 rustc -O -o "$work/plain" bench/lines/plain.rs
