@@ -1,7 +1,6 @@
 // The tape: a live source, driven by the events that it is told.
 ghost use Rattle.std.specs.Prelude.{◌≡◌, true, length, replicate};
 ghost use Rattle.values.specs.declared.reference.Reference.TheVariants.{Absent};
-ghost use Rattle.std.proofs.Common.{rules, arith};
 
 use crate::{CLASSES, PriceSource};
 use values::reference::{Event, Reference};
@@ -28,7 +27,7 @@ impl PriceSource for Tape {
 
     ghost live = { λ _. true };
 
-    ghost sixteen = { first_of (Prim.search rules, Prim.grind (arith, Self.row.coded.inj)) };
+    ghost sixteen = { λ t. t.full };
 
     fn is_live(&self) -> bool {
         true
