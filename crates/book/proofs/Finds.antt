@@ -1,8 +1,8 @@
 -- The steps of a loop that looks for the first place, one by one or by halving.
-use Rattle.std.proofs.Common.{◌≡◌, ℕ, zero, suc, ◌+◌, ◌-◌, ◌<◌, ◌≤◌, Bool, true, false, cond, not, ◌&&◌, ◌||◌, List, [], ◌∷◌, ◌++◌, length, get_or, drop, sym, refl, ap, ◌∙◌, arith}
+use Rattle.std.proofs.Common.{◌≡◌, ℕ, zero, suc, ◌+◌, ◌<◌, ◌≤◌, Bool, true, false, cond, not, ◌||◌, List, [], ◌∷◌, length, get_or, drop, sym, refl, ap, ◌∙◌, arith}
 use Rattle.std.proofs.lemmas.List.{at_drop_more, at_drop_all}
 use Rattle.std.proofs.lemmas.Bool.{cond-true, cond-false, and_parts, both_ways}
-use Rattle.book.specs.Lists.{first, every, pairwise, parted}
+use Rattle.book.specs.Lists.{first, every, parted}
 
 module _ {X : Type 0} (p : X → Bool) (xs : List X) (k : ℕ) (d : X) where
   pub first_skips : k < length xs → p (get_or xs k d) ≡ false → first p xs ≡ first p (drop k xs) + k → first p xs ≡ first p (drop (k + 1) xs) + (k + 1)

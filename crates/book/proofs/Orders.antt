@@ -1,6 +1,6 @@
 -- The order of rows and the turn of due entries are strict; which rows agree does not depend on which comes first.
-use Rattle.std.proofs.Common.{◌≡◌, ℕ, Bool, true, false, cond, not, ◌&&◌, ◌||◌, eqb, ltb, leb, sym, refl, ap, ◌∙◌, arith}
-use Rattle.std.proofs.lemmas.Bool.{and_parts, and_from, and_left, not-true, eqb-true, eq-eqb, ne_eqb, eqb-false, both_ways}
+use Rattle.std.proofs.Common.{◌≡◌, ℕ, Bool, true, false, not, ◌&&◌, ◌||◌, eqb, ltb, sym, refl, ap, ◌∙◌, arith}
+use Rattle.std.proofs.lemmas.Bool.{and_parts, and_from, not-true}
 use Rattle.std.proofs.lemmas.Bool.Decides.{nat_tests}
 use Rattle.values.specs.declared.side.Side.{Side}
 use Rattle.values.specs.declared.side.Side.TheVariants.{Buy, Sell}
@@ -9,7 +9,7 @@ use Rattle.book.specs.declared.row.Row.{Row}
 use Rattle.book.specs.declared.row.Due.{Due}
 use Rattle.book.specs.declared.row.Standing.{Standing}
 use Rattle.book.specs.declared.row.Standing.TheVariants.{Plain, Held, Quote}
-use Rattle.book.specs.Rows.{same_side, bid_first, better, precedes, numbered, stands_at, not_before, meets, crosses, same_maker, same_quote, agrees}
+use Rattle.book.specs.Rows.{same_side, bid_first, precedes, numbered, stands_at, not_before, crosses, same_maker, same_quote, agrees}
 use Rattle.book.specs.Dues.{sooner, distinct, owed}
 use Rattle.book.proofs.Keeps.{decide}
 

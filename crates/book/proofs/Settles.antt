@@ -1,12 +1,12 @@
 -- Contracts taken off one row.
-use Rattle.std.proofs.Common.{◌≡◌, ℕ, zero, suc, ◌+◌, ◌-◌, ◌<◌, ◌≤◌, Bool, true, false, cond, not, ◌&&◌, ◌||◌, eqb, ltb, leb, List, [], ◌∷◌, length, get_or, take, set, sym, refl, ap, ◌∙◌, subst, arith}
+use Rattle.std.proofs.Common.{◌≡◌, ℕ, zero, suc, ◌-◌, ◌<◌, ◌≤◌, Bool, true, false, cond, not, List, [], ◌∷◌, length, get_or, set, sym, refl, ap, ◌∙◌, arith}
 use Rattle.std.specs.List.{remove}
-use Rattle.std.proofs.lemmas.Bool.{and_parts, and_from, cond-true, cond-false, cond_both, both_ways, ltb-true, lt-ltb}
+use Rattle.std.proofs.lemmas.Bool.{and_parts, and_from, cond-true, cond-false, both_ways}
 use Rattle.book.specs.declared.row.Row.{Row}
 use Rattle.book.specs.declared.row.Standing.{Standing}
 use Rattle.book.specs.declared.row.Standing.TheVariants.{Plain, Held, Quote}
 use Rattle.book.specs.Lists.{first, every, pairwise}
-use Rattle.book.specs.Rows.{precedes, agrees, sized, same_maker, renewed, numbered, resized, put, cut, settle}
+use Rattle.book.specs.Rows.{same_maker, renewed, numbered, resized, put, cut, settle}
 use Rattle.book.proofs.Keeps.{decide, fails, every_weaker}
 
 pub put_none : (due n : ℕ) (r : Row) (rs : List Row) → n ≡ 0 → put due n r rs ≡ rs

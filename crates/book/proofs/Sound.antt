@@ -1,11 +1,11 @@
 -- What the rows keep, through each change of them; where the best row stands.
-use Rattle.std.proofs.Common.{◌≡◌, ℕ, zero, suc, ◌-◌, ◌<◌, ◌≤◌, Bool, true, false, cond, not, ◌&&◌, ◌||◌, eqb, ltb, leb, List, [], ◌∷◌, length, get_or, take, Some, None, Option, sym, refl, ap, ◌∙◌, subst, arith}
-use Rattle.std.proofs.lemmas.Bool.{and_parts, and_from, lt-ltb, cond-false}
+use Rattle.std.proofs.Common.{◌≡◌, ℕ, suc, ◌<◌, ◌≤◌, Bool, true, false, cond, not, ◌&&◌, eqb, List, [], ◌∷◌, length, get_or, None, sym, refl, ap, ◌∙◌, arith}
+use Rattle.std.proofs.lemmas.Bool.{and_parts, lt-ltb}
 use Rattle.values.specs.declared.side.Side.{Side}
 use Rattle.book.specs.declared.row.Row.{Row}
-use Rattle.book.specs.Lists.{first, found, or_else, placed, lacking, every, pairwise, parted}
-use Rattle.book.specs.Rows.{Sound, precedes, agrees, crosses, stands_at, same_maker, renewed, sized, not_before, numbered, insert, without, row_of, best_of, settle, resized}
-use Rattle.book.proofs.Keeps.{decide, single, fails, every_weaker, pairwise_weaker, every_placed, every_lacking, pairwise_lacking, pairwise_joined, pairwise_placed, found_none, none_passes}
+use Rattle.book.specs.Lists.{first, found, or_else, every, pairwise, parted}
+use Rattle.book.specs.Rows.{Sound, precedes, agrees, crosses, stands_at, sized, not_before, numbered, insert, without, best_of, settle, resized}
+use Rattle.book.proofs.Keeps.{decide, single, every_weaker, pairwise_weaker, every_placed, every_lacking, pairwise_lacking, pairwise_joined, pairwise_placed, found_none, none_passes}
 use Rattle.book.proofs.Orders.{precedes_trans, precedes_total, precedes_on, not_before_on, before_not, after_not, agrees_back, agrees_single}
 use Rattle.book.proofs.Settles.{every_settle, pairwise_settle, maker_left, maker_right}
 

@@ -1,10 +1,10 @@
 -- From what the functions on places promise to what is done to a list.
-use Rattle.std.proofs.Common.{◌≡◌, ℕ, ◌-◌, ◌<◌, ◌≤◌, Bool, true, List, length, get_or, take, set, Some, None, Option, sym, ap, ◌∙◌, subst, arith}
+use Rattle.std.proofs.Common.{◌≡◌, ℕ, ◌-◌, ◌<◌, ◌≤◌, Bool, true, List, length, get_or, take, set, Some, None, sym, ap, ◌∙◌, subst, arith}
 use lib.Seq.{take-set-lt}
 use Rattle.std.specs.List.{insert, remove}
 use Rattle.std.proofs.lemmas.List.{length-take-le, get_or-take}
 use Rattle.book.specs.Lists.{first, found, placed, lacking}
-use Rattle.book.specs.Rows.{numbered, settle, resized, Sound}
+use Rattle.book.specs.Rows.{numbered, settle, resized}
 use Rattle.values.specs.declared.side.Side.TheVariants.{Buy}
 use Rattle.book.specs.declared.row.Row.{Row}
 use Rattle.book.specs.declared.row.Standing.TheVariants.{Plain}

@@ -1,8 +1,8 @@
 -- How a taker goes down the rows: one trade, the end, what adds up, and the rule.
-use Rattle.std.proofs.Common.{◌≡◌, ℕ, zero, suc, ◌+◌, ◌-◌, ◌<◌, ◌≤◌, min, Bool, true, false, cond, not, ◌&&◌, ◌||◌, eqb, ltb, leb, ◌⊎◌, List, [], ◌∷◌, ◌++◌, reverse, length, Some, None, Option, sym, refl, ap, ◌∙◌, subst, inl, inr, ⊎_elim, arith}
+use Rattle.std.proofs.Common.{◌≡◌, ℕ, zero, suc, ◌+◌, ◌-◌, ◌<◌, ◌≤◌, min, Bool, true, false, not, ◌&&◌, ◌||◌, eqb, ltb, leb, ◌⊎◌, List, [], ◌∷◌, ◌++◌, reverse, length, Some, None, Option, sym, refl, ap, ◌∙◌, subst, inl, inr, ⊎_elim, arith}
 use Rattle.std.specs.List.{AllByRecursion}
 use Rattle.std.proofs.lemmas.List.{reverse-append, reverse-reverse, append_assoc}
-use Rattle.std.proofs.lemmas.Bool.{and_parts, and_from, and_left, cond-true, cond-false, cond_both, both_ways, ltb-true, eq-eqb, leb-true, leb-false}
+use Rattle.std.proofs.lemmas.Bool.{and_parts, and_left, cond-true, cond-false, cond_both, both_ways, ltb-true, eq-eqb, leb-true, leb-false}
 use Rattle.std.proofs.lemmas.Bool.Decides.{nat_tests}
 use Rattle.values.specs.declared.side.Side.{Side}
 use Rattle.values.specs.declared.side.Side.TheVariants.{Buy, Sell}
@@ -14,14 +14,14 @@ use Rattle.book.specs.declared.row.Row.{Row}
 use Rattle.book.specs.declared.row.Taker.{Taker}
 use Rattle.book.specs.declared.row.Trade.{Trade}
 use Rattle.book.specs.Lists.{found, or_else, every, pairwise}
-use Rattle.book.specs.Rows.{Sound, same_side, bid_first, better, precedes, agrees, sized, numbered, stands_at, meets, best_of, resized, put, cut, settle}
+use Rattle.book.specs.Rows.{Sound, same_side, bid_first, better, precedes, agrees, sized, numbered, stands_at, best_of, put, cut, settle}
 use Rattle.book.specs.Trades.{trade_with}
 use Rattle.book.specs.Taking.{in_reach, amount, note, Fill, take, Has, BestOf, NoneInReach, Takes, done, trade, traded, Fair, Took}
-use Rattle.book.proofs.Keeps.{decide, fails, every_weaker, found_none}
+use Rattle.book.proofs.Keeps.{decide, every_weaker, found_none}
 use Rattle.book.proofs.Orders.{agrees_number}
-use Rattle.book.proofs.Settles.{cut_all, cut_part, settle_here, settle_past, length_settle}
+use Rattle.book.proofs.Settles.{cut_all, settle_here, settle_past}
 use Rattle.book.proofs.Sound.{sound_settle}
-use Rattle.book.proofs.Tied.{found_passes, found_every}
+use Rattle.book.proofs.Tied.{found_every}
 
 abbrev pub fill : ℕ → List Row → List Trade → Fill
 fill n rs j = record { left = n; rows = rs; trades = j }

@@ -1,16 +1,15 @@
 -- The tie between the rows and their due list, kept by each change of a book.
-use Rattle.std.proofs.Common.{◌≡◌, ℕ, suc, ◌<◌, ◌≤◌, Bool, true, false, not, ◌&&◌, eqb, List, [], ◌∷◌, length, Some, None, Option, sym, refl, ap, ◌∙◌, subst, arith}
+use Rattle.std.proofs.Common.{◌≡◌, ℕ, ◌<◌, ◌≤◌, Bool, true, not, eqb, List, [], ◌∷◌, length, Some, None, sym, refl, ap, ◌∙◌, subst, arith}
 use Rattle.std.proofs.lemmas.Bool.{and_parts, and_from, cond-true, cond-false, eqb-true}
 use Rattle.std.proofs.lemmas.Bool.Decides.{nat_tests}
 use Rattle.book.specs.declared.row.Row.{Row}
 use Rattle.book.specs.declared.row.Due.{Due}
 use Rattle.book.specs.declared.row.Standing.{Standing}
-use Rattle.book.specs.declared.row.Standing.TheVariants.{Plain, Held, Quote}
 use Rattle.book.specs.Lists.{found, or_else, lacking, every, pairwise}
-use Rattle.book.specs.Rows.{agrees, precedes, sized, numbered, renewed, resized, insert, without, row_of, settle, Sound}
+use Rattle.book.specs.Rows.{agrees, precedes, numbered, renewed, insert, without, row_of, settle}
 use Rattle.book.specs.Dues.{due_at, owed, distinct, listed, unlisted, due_list, same_dues}
-use Rattle.book.proofs.Keeps.{decide, fails, every_weaker, every_lacking, lacking_fails, length_placed, length_lacking, lacking_none}
-use Rattle.book.proofs.Settles.{settle_nothing, settle_none, length_settle}
+use Rattle.book.proofs.Keeps.{decide, fails, every_weaker, lacking_fails, length_placed, length_lacking, lacking_none}
+use Rattle.book.proofs.Settles.{settle_none, length_settle}
 use Rattle.book.proofs.Ties.{same_from, same_by, due_insert, due_unused, due_length, due_gone, due_part, due_every, settle_all}
 
 module _ (ds : List Due) (rs : List Row) (tied : same_dues ds (due_list rs) ≡ true) where

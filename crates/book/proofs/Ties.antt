@@ -1,13 +1,13 @@
 -- The due list of the rows, through each change of them.
-use Rattle.std.proofs.Common.{◌≡◌, ℕ, zero, suc, ◌+◌, ◌-◌, ◌<◌, ◌≤◌, Bool, true, false, cond, not, ◌&&◌, ◌||◌, eqb, ltb, List, [], ◌∷◌, length, Some, None, Option, sym, refl, ap, ◌∙◌, subst, arith}
-use Rattle.std.proofs.lemmas.Bool.{and_parts, and_from, cond-true, cond-false, eqb-true, eq-eqb, both_ways, not-true}
+use Rattle.std.proofs.Common.{◌≡◌, ℕ, suc, ◌<◌, ◌≤◌, Bool, true, false, cond, not, ◌&&◌, eqb, List, [], ◌∷◌, length, Some, sym, refl, ap, ◌∙◌, subst, arith}
+use Rattle.std.proofs.lemmas.Bool.{and_parts, and_from, cond-true, cond-false, eqb-true, eq-eqb, both_ways}
 use Rattle.std.proofs.lemmas.Bool.Decides.{nat_tests}
 use Rattle.book.specs.declared.row.Row.{Row}
 use Rattle.book.specs.declared.row.Due.{Due}
 use Rattle.book.specs.declared.row.Standing.{Standing}
 use Rattle.book.specs.declared.row.Standing.TheVariants.{Plain, Held, Quote}
 use Rattle.book.specs.Lists.{found, or_else, placed, lacking, every, pairwise, head}
-use Rattle.book.specs.Rows.{agrees, precedes, numbered, renewed, resized, put, cut, settle, insert, without}
+use Rattle.book.specs.Rows.{agrees, precedes, numbered, renewed, settle, insert, without}
 use Rattle.book.specs.Dues.{due_at, sooner, owed, distinct, InTurn, entered, listed, unlisted, due_list, soonest, earliest, same_dues}
 use Rattle.book.proofs.Keeps.{decide, fails, every_weaker, every_placed, lacking_none, length_placed}
 use Rattle.book.proofs.Orders.{agrees_number, sooner_trans, sooner_total, sooner_strict}

@@ -1,6 +1,6 @@
 -- What the due list keeps, through each change of it.
-use Rattle.std.proofs.Common.{◌≡◌, ℕ, ◌≤◌, Bool, true, not, List, length, take, sym, ap, ◌∙◌, subst}
-use Rattle.book.specs.Lists.{placed, lacking, every, pairwise}
+use Rattle.std.proofs.Common.{◌≡◌, ℕ, true, List}
+use Rattle.book.specs.Lists.{lacking, every}
 use Rattle.book.specs.Dues.{sooner, distinct, owed, InTurn, entered}
 use Rattle.book.specs.declared.row.Due.{Due}
 use Rattle.book.proofs.Keeps.{single, pairwise_weaker, pairwise_lacking, pairwise_joined, pairwise_placed}

@@ -4,7 +4,7 @@ use Rattle.book.specs.declared.row.Row.{Row}
 use Rattle.book.specs.declared.row.Due.{Due}
 use Rattle.book.specs.declared.row.Standing.{Standing}
 use Rattle.book.specs.declared.row.Standing.TheVariants.{Plain, Held, Quote}
-use Rattle.book.specs.Lists.{placed, lacking, pairwise, head}
+use Rattle.book.specs.Lists.{placed, lacking, pairwise}
 
 abbrev pub due_at : ℕ → ℕ → Due
 due_at moment n = record { moment = moment; number = n }

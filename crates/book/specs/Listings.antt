@@ -1,5 +1,5 @@
 -- The lists that stand in the slots of rows and of due entries.
-use Rattle.std.specs.Prelude.{ℕ, ◌≤◌, List, take}
+use Rattle.std.specs.Prelude.{List, take}
 use Rattle.book.specs.declared.row.Row.{Row}
 use Rattle.book.specs.declared.row.Due.{Due}
 use Rattle.book.specs.declared.resting.Rows.{Rows}

@@ -1,5 +1,5 @@
 -- Lists of anything: searches, places and pairs, each by a test.
-use Rattle.std.specs.Prelude.{ℕ, suc, ◌+◌, Bool, true, false, cond, not, ◌&&◌, ◌||◌, List, [], ◌∷◌, Some, None, Option}
+use Rattle.std.specs.Prelude.{ℕ, suc, Bool, true, false, cond, not, ◌&&◌, ◌||◌, List, [], ◌∷◌, Some, None, Option}
 
 -- the place of the first element that passes, or the length of the list
 abbrev pub first : {X : Type 0} → (X → Bool) → List X → ℕ

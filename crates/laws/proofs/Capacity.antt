@@ -1,5 +1,5 @@
 -- The book stays within its 256 rows, and a call within the 256 trades and 128 withdrawals that it asks room for.
-use Rattle.std.proofs.Common.{◌≡◌, ℕ, ◌+◌, ◌-◌, ◌<◌, ◌≤◌, Bool, true, false, not, ◌&&◌, eqb, leb, ◌⊎◌, List, [], ◌∷◌, length, Some, None, Option, sym, refl, ap, ◌∙◌, subst, ⊎_elim, arith}
+use Rattle.std.proofs.Common.{◌≡◌, ℕ, ◌+◌, ◌<◌, ◌≤◌, Bool, true, false, not, ◌&&◌, eqb, leb, ◌⊎◌, List, [], ◌∷◌, length, Some, None, Option, sym, refl, ap, ◌∙◌, subst, ⊎_elim, arith}
 use Rattle.std.proofs.lemmas.Bool.{leb-false, eqb-true, eq-eqb, and_parts, and_from, or_parts}
 use Rattle.values.specs.declared.order.OrderPrice.{OrderPrice}
 use Rattle.values.specs.declared.order.Condition.{Condition}
@@ -18,7 +18,7 @@ use Rattle.collars.specs.declared.pricing.Pricing.TheVariants.{AtLimit}
 use Rattle.book.specs.declared.row.Row.{Row}
 use Rattle.book.specs.Rows.{same_side, numbered}
 use Rattle.book.specs.Taking.{take}
-use Rattle.trading.specs.Journals.{Event, trades_of, withdrawals_of, noting}
+use Rattle.trading.specs.Journals.{trades_of, withdrawals_of, noting}
 use Rattle.trading.specs.Desks.{pull, second_after, taker, row_for, enter, enter_now}
 use Rattle.trading.specs.Doing.{desk, count}
 use Rattle.trading.proofs.Sides.{clash, same_self}

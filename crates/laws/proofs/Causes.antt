@@ -1,5 +1,5 @@
 -- A limit order is refused for the published causes alone.
-use Rattle.std.proofs.Common.{◌≡◌, ℕ, suc, ◌-◌, ◌≤◌, Bool, true, false, leb, ◌⊎◌, List, [], ◌∷◌, length, Some, None, Err, Option, sym, refl, ap, ◌∙◌, subst, inl, inr, ⊎_elim, arith}
+use Rattle.std.proofs.Common.{◌≡◌, ℕ, suc, ◌≤◌, Bool, true, false, leb, List, [], ◌∷◌, length, Some, None, Err, Option, sym, refl, ap, ◌∙◌, subst, inl, inr, ⊎_elim, arith}
 use Rattle.std.specs.List.{AllByRecursion}
 use Rattle.std.proofs.lemmas.Bool.{leb-true, ltb-true, and_parts, or_cases}
 use Rattle.values.specs.declared.order.OrderPrice.TheVariants.{Limit}
@@ -12,7 +12,6 @@ use Rattle.values.specs.declared.side.Side.{Side}
 use Rattle.screens.specs.declared.view.View.{View}
 use Rattle.screens.specs.declared.view.Verdict.{Verdict}
 use Rattle.screens.specs.declared.view.Verdict.TheVariants.{Pass, Refused}
-use Rattle.collars.specs.Updates.{different}
 use Rattle.book.specs.declared.row.Row.{Row}
 use Rattle.trading.proofs.Sides.{clash}
 use Rattle.trading.proofs.Faces.{face, has_in, Distinct}

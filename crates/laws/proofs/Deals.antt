@@ -1,5 +1,4 @@
 -- Trades are deals.
-use Rattle.std.proofs.Common.{◌-◌}
 use Rattle.trading.specs.Journals.{Traded}
 use Rattle.laws.specs.Deals.{EveryRunDealsFairly}
 use Rattle.laws.proofs.Runs.{fair_event, run_kept}

@@ -1,5 +1,5 @@
 -- Display prices are given and moved by the rule.
-use Rattle.std.proofs.Common.{◌-◌, sym, subst}
+use Rattle.std.proofs.Common.{sym, subst}
 use Rattle.std.specs.List.{AllByRecursion}
 use Rattle.trading.specs.Journals.{Shown, Moved}
 use Rattle.values.specs.declared.side.Side.{Side}

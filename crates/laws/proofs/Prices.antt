@@ -1,5 +1,5 @@
 -- How an order is priced agrees with its collar, and what a lawful screen passes.
-use Rattle.std.proofs.Common.{◌≡◌, ℕ, ◌-◌, ◌<◌, ◌≤◌, Bool, true, false, cond, ltb, List, [], ◌∷◌, Some, None, Option, sym, refl, ap, ◌∙◌, subst, arith}
+use Rattle.std.proofs.Common.{◌≡◌, ℕ, ◌<◌, ◌≤◌, Bool, true, false, cond, ltb, List, [], ◌∷◌, Some, None, Option, sym, refl, ap, ◌∙◌, subst, arith}
 use Rattle.std.proofs.lemmas.Bool.{ltb-true, ltb-false, le-leb, or_parts}
 use Rattle.values.specs.declared.nbbo.Nbbo.{Nbbo}
 use Rattle.values.specs.declared.order.OrderPrice.{OrderPrice}

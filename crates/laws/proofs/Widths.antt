@@ -1,10 +1,9 @@
 -- Widths change by approval.
-use Rattle.std.proofs.Common.{◌≡◌, ℕ, ◌-◌, Bool, true, false, cond, not, ◌||◌, eqb, ◌⊎◌, ◌∷◌, length, Some, None, Option, sym, refl, ap, inl, inr, arith}
+use Rattle.std.proofs.Common.{◌≡◌, ℕ, Bool, true, false, cond, not, ◌||◌, eqb, ◌⊎◌, ◌∷◌, length, Some, None, Option, sym, refl, ap, inl, inr, arith}
 use Rattle.std.proofs.lemmas.Bool.{leb-true, leb-false, eqb-true, eq-eqb, or_parts, not-true, not-false}
 use Rattle.values.specs.declared.refusal.Refusal.{Refusal}
 use Rattle.values.specs.declared.refusal.Refusal.TheVariants.{Name}
 use Rattle.collars.specs.Updates.{lawful_width, official, different}
-use Rattle.trading.specs.Journals.{Event}
 use Rattle.trading.proofs.Sides.{clash, decide}
 use Rattle.market.specs.declared.call.Call.{Call}
 use Rattle.market.specs.declared.call.Call.TheVariants as call

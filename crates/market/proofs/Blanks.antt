@@ -1,5 +1,5 @@
 -- Lists and tables with one value everywhere, and lists whose elements are all orderly.
-use Rattle.std.proofs.Common.{◌≡◌, ℕ, zero, suc, ◌<◌, Bool, true, false, ◌&&◌, List, [], ◌∷◌, get_or, set, replicate, None, refl, ap, arith}
+use Rattle.std.proofs.Common.{◌≡◌, ℕ, zero, suc, true, List, [], ◌∷◌, get_or, set, replicate, None, refl}
 use Rattle.std.proofs.lemmas.Bool.{and_parts, and_from}
 use Rattle.collars.specs.declared.collar.Settings.{Settings}
 use Rattle.values.specs.declared.nbbo.Nbbo.{Nbbo}

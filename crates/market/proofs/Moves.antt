@@ -1,5 +1,5 @@
 -- From what a floor does to what a call comes to.
-use Rattle.std.proofs.Common.{◌≡◌, ℕ, suc, ◌+◌, ◌<◌, ◌≤◌, Bool, true, false, ◌||◌, ltb, leb, List, [], is_some, Some, None, Ok, Err, Option, sym, refl, ap, ◌∙◌, subst, add-one, arith}
+use Rattle.std.proofs.Common.{◌≡◌, ℕ, suc, ◌+◌, ◌≤◌, true, false, ltb, List, [], is_some, Some, None, Ok, Option, sym, refl, ap, ◌∙◌, subst, add-one}
 use Rattle.std.proofs.lemmas.Bool.{ltb-false, le-ltb, or_parts}
 use Rattle.rolls.specs.declared.roll.Roll.{Roll}
 use Rattle.rolls.specs.Rolls.{Gains, room}
@@ -19,10 +19,10 @@ use Rattle.trading.specs.Journals.{trades_of, withdrawals_of}
 use Rattle.book.specs.Rows.{row_of, numbered}
 use Rattle.trading.specs.Desks.{Desk, pull, second_after, advance, enter, enter_now}
 use Rattle.trading.specs.Doing.{desk, Trading, Withdrawing}
-use Rattle.trading.proofs.Noted.{advance_same, pull_same, enter_same, enter_adds}
+use Rattle.trading.proofs.Noted.{advance_same, pull_same, enter_same}
 use Rattle.trading.specs.Floors.{rows_on, Leaves}
 use Rattle.market.specs.declared.market.Market.{Market}
-use Rattle.market.specs.States.{State, Room, Answer, Outcome}
+use Rattle.market.specs.States.{Answer, Outcome}
 use Rattle.market.specs.Tests.{tight, lacks}
 use Rattle.market.specs.Calls.{outcome, step_clock, step_withdraw}
 use Rattle.market.specs.Markets.{making, state, room_of, Comes, ComesQuietly, ComesWith}

@@ -1,6 +1,6 @@
 -- What an order's tests give, and that its balance displays within its reach.
-use Rattle.std.proofs.Common.{◌≡◌, ℕ, zero, suc, ◌+◌, ◌-◌, ◌<◌, ◌≤◌, min, max, Bool, true, false, cond, not, ◌&&◌, ◌||◌, eqb, ltb, leb, ◌⊎◌, List, [], ◌∷◌, length, Some, None, Option, sym, refl, ap, ◌∙◌, subst, inl, inr, ⊎_elim, arith}
-use Rattle.std.proofs.lemmas.Bool.{leb-true, leb-false, le-leb, ltb-true, ltb-false, or_parts, not-true, cond_both}
+use Rattle.std.proofs.Common.{◌≡◌, ℕ, ◌+◌, ◌-◌, ◌<◌, min, max, Bool, true, false, cond, not, ◌&&◌, ltb, List, [], ◌∷◌, Some, None, Option, sym, refl, ◌∙◌, subst, arith}
+use Rattle.std.proofs.lemmas.Bool.{leb-true, le-leb, ltb-true, ltb-false, not-true, cond_both}
 use Rattle.values.specs.declared.nbbo.Nbbo.{Nbbo}
 use Rattle.values.specs.declared.refusal.Refusal.{Refusal}
 use Rattle.values.specs.declared.side.Side.{Side}
@@ -15,7 +15,7 @@ use Rattle.book.specs.declared.row.Row.{Row}
 use Rattle.book.specs.Lists.{every}
 use Rattle.book.specs.Rows.{stands_at}
 use Rattle.trading.specs.declared.ticket.Ticket.{Ticket}
-use Rattle.trading.specs.Doing.{rivals, is_quote_of, displays_in_reach}
+use Rattle.trading.specs.Doing.{rivals, displays_in_reach}
 use Rattle.trading.proofs.Sides.{decide}
 use Rattle.trading.proofs.Each.{every_from}
 use Rattle.market.specs.Tests.{first, crossed}

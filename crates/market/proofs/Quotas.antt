@@ -1,6 +1,6 @@
 -- How many rows a call withdraws: one by number, one on a side, at most 128 of one maker.
-use Rattle.std.proofs.Common.{◌≡◌, ℕ, zero, suc, ◌+◌, ◌-◌, ◌*◌, ◌<◌, ◌≤◌, Bool, true, false, cond, not, ◌&&◌, ◌||◌, eqb, ltb, leb, ◌⊎◌, List, [], ◌∷◌, length, Some, None, Option, sym, refl, ap, ◌∙◌, subst, inl, inr, ⊎_elim, arith}
-use Rattle.std.proofs.lemmas.Bool.{leb-true, leb-false, le-leb, lt-leb, ltb-true, lt-ltb, eqb-true, eqb-false, eq-eqb, and_parts, and_from, not-true, not-false, cond_both, cases_eq}
+use Rattle.std.proofs.Common.{◌≡◌, ℕ, zero, suc, ◌+◌, ◌*◌, ◌≤◌, Bool, true, false, cond, not, ◌&&◌, eqb, ltb, leb, ◌⊎◌, List, [], ◌∷◌, length, Some, None, Option, sym, refl, ap, ◌∙◌, subst, inl, inr, ⊎_elim, arith}
+use Rattle.std.proofs.lemmas.Bool.{le-leb, lt-leb, ltb-true, lt-ltb, eqb-true, eqb-false, eq-eqb, and_parts, and_from, not-true, cases_eq}
 use Rattle.values.specs.declared.side.Side.{Side}
 use Rattle.values.specs.declared.side.Side.TheVariants.{Buy, Sell}
 use Rattle.book.specs.declared.row.Row.{Row}
@@ -9,12 +9,10 @@ use Rattle.book.specs.declared.row.Standing.TheVariants.{Plain, Held, Quote}
 use Rattle.book.specs.Lists.{every, pairwise}
 use Rattle.book.specs.Rows.{same_side, stands_at, numbered, same_maker, same_quote, agrees, Sound, lowest, wanted_from}
 use Rattle.book.specs.Taking.{Has}
-use Rattle.trading.specs.declared.ticket.Ticket.{Ticket}
-use Rattle.trading.specs.Desks.{Desk, pull}
-use Rattle.trading.specs.Doing.{desk, count, is_quote_of, rivals}
+use Rattle.trading.specs.Doing.{count}
 use Rattle.trading.specs.Rests.{in_series}
 use Rattle.trading.proofs.Sides.{clash, decide, same_side_lem, same_self}
-use Rattle.trading.proofs.Each.{every_has, every_from, lowest_none, lowest_some}
+use Rattle.trading.proofs.Each.{every_has, lowest_none, lowest_some}
 use Rattle.market.specs.Tests.{is_mine, on_side}
 
 -- ---- counting rows

@@ -1,5 +1,5 @@
 -- What a quote's tests leave, and what comes of a quote that is taken or refused by the screen.
-use Rattle.std.proofs.Common.{◌≡◌, ℕ, suc, ◌+◌, ◌<◌, ◌≤◌, Bool, true, false, cond, not, ◌&&◌, ◌||◌, eqb, ltb, leb, ◌⊎◌, List, [], ◌∷◌, ◌++◌, length, Some, None, Ok, Err, Option, sym, refl, ap, ◌∙◌, subst, inl, inr, ⊎_elim, add-one, arith}
+use Rattle.std.proofs.Common.{◌≡◌, ℕ, suc, ◌+◌, ◌<◌, ◌≤◌, Bool, true, false, not, ◌&&◌, eqb, ltb, leb, List, [], ◌∷◌, ◌++◌, length, Some, None, Ok, Option, sym, refl, ap, ◌∙◌, subst, inl, inr, add-one, arith}
 use Rattle.std.proofs.lemmas.Bool.{leb-false, ltb-true, ltb-false, eqb-true, eq-eqb, and_parts, and_from, or_parts}
 use Rattle.values.specs.declared.refusal.Cause.{Cause}
 use Rattle.values.specs.declared.refusal.Refusal.{Refusal}
@@ -13,7 +13,7 @@ use Rattle.book.specs.declared.row.Trade.{Trade}
 use Rattle.book.specs.declared.row.Withdrawal.{Withdrawal}
 use Rattle.book.specs.Lists.{every}
 use Rattle.book.specs.Taking.{Has}
-use Rattle.book.specs.Rows.{same_side, stands_at, Sound}
+use Rattle.book.specs.Rows.{same_side, stands_at}
 use Rattle.screens.specs.declared.view.View.{View}
 use Rattle.screens.specs.declared.screen.Screen as screen
 use Rattle.screens.specs.declared.view.Verdict.{Verdict}
@@ -24,11 +24,10 @@ use Rattle.screens.specs.declared.view.Extent.{Extent}
 use Rattle.screens.specs.Views.{ruling_by}
 use Rattle.screens.specs.declared.view.Extent.TheVariants.{OneSide, WholeClass}
 use Rattle.sources.specs.declared.PriceSource as source
-use Rattle.collars.specs.declared.pricing.Pricing.{Pricing}
 use Rattle.collars.specs.declared.pricing.Pricing.TheVariants.{AtLimit}
 use Rattle.trading.specs.declared.ticket.Ticket.{Ticket}
 use Rattle.trading.specs.declared.floor.Floor.{Floor}
-use Rattle.trading.specs.Journals.{Event, trades_of, withdrawals_of}
+use Rattle.trading.specs.Journals.{trades_of, withdrawals_of}
 use Rattle.trading.specs.Desks.{Desk, pull, second_after, enter}
 use Rattle.trading.specs.Doing.{desk, count, rivals, is_quote_of, Trading, Withdrawing}
 use Rattle.trading.specs.Rests.{below}
@@ -40,9 +39,9 @@ use Rattle.trading.proofs.Gone.{pull_in, pull_gone, pull_count}
 use Rattle.trading.proofs.Noted.{enter_same, enter_adds, pull_same}
 use Rattle.market.specs.declared.market.Market.{Market}
 use Rattle.market.specs.States.{Answer, view_in}
-use Rattle.market.specs.Tests.{first, is_mine, on_side, in_class, tests_quote}
+use Rattle.market.specs.Tests.{first, is_mine, on_side, tests_quote}
 use Rattle.market.specs.Listings.{listed}
-use Rattle.market.specs.Calls.{unless, outcome, refused_quote, taken_quote, quote_by, step_quote}
+use Rattle.market.specs.Calls.{unless, refused_quote, taken_quote, quote_by, step_quote}
 use Rattle.market.specs.Markets.{making, state, room_of, Comes, ComesWith}
 use Rattle.market.proofs.Moves.{roomy, none_gained, on_floor, floor_comes}
 use Rattle.market.proofs.Ordered.{none_met}

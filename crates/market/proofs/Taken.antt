@@ -1,5 +1,5 @@
 -- An order or quote that no test refuses may enter, and what comes of it.
-use Rattle.std.proofs.Common.{◌≡◌, ℕ, suc, ◌+◌, ◌<◌, ◌≤◌, Bool, true, false, not, ◌&&◌, ◌||◌, ltb, leb, length, Some, None, Ok, Err, Option, sym, refl, ap, ◌∙◌, subst, arith}
+use Rattle.std.proofs.Common.{◌≡◌, ℕ, ◌+◌, ◌<◌, ◌≤◌, false, ◌&&◌, leb, length, None, Ok, Option, sym, ap, subst, arith}
 use Rattle.std.proofs.lemmas.Bool.{ltb-false, leb-false}
 use Rattle.std.proofs.lemmas.List.{length-take-le}
 use Rattle.values.specs.declared.order.OrderPrice.{OrderPrice}
@@ -11,7 +11,6 @@ use Rattle.rolls.specs.declared.roll.Roll.{Roll}
 use Rattle.rolls.specs.Rolls.{room}
 use Rattle.book.specs.declared.row.Trade.{Trade}
 use Rattle.book.specs.declared.row.Withdrawal.{Withdrawal}
-use Rattle.book.specs.Lists.{every}
 use Rattle.screens.specs.declared.view.View.{View}
 use Rattle.screens.specs.declared.view.Extent.{Extent}
 use Rattle.screens.specs.declared.screen.Screen as screen
@@ -19,12 +18,12 @@ use Rattle.sources.specs.declared.PriceSource as source
 use Rattle.collars.specs.declared.pricing.Pricing.{Pricing}
 use Rattle.trading.specs.declared.ticket.Ticket.{Ticket}
 use Rattle.trading.specs.declared.floor.Floor.{Floor}
-use Rattle.trading.specs.Desks.{second_after, enter, enter_now}
-use Rattle.trading.specs.Doing.{desk, Trading, Withdrawing}
+use Rattle.trading.specs.Desks.{second_after, enter}
+use Rattle.trading.specs.Doing.{desk, Trading}
 use Rattle.trading.specs.Floors.{rows_on, Leaves}
 use Rattle.market.specs.declared.listing.Listing.{Listing}
 use Rattle.market.specs.declared.market.Market.{Market}
-use Rattle.market.specs.Tests.{first, tight, is_day, tests_order}
+use Rattle.market.specs.Tests.{first, is_day, tests_order}
 use Rattle.market.specs.Nationals.{nbbo_at}
 use Rattle.market.specs.Widths.{width_at}
 use Rattle.market.specs.Listings.{listed}
@@ -34,7 +33,7 @@ use Rattle.screens.specs.declared.view.Verdict.TheVariants.{Pass}
 use Rattle.market.specs.States.{Answer}
 use Rattle.market.specs.Calls.{unless, screening, priced, taken_order, order_by, step_order}
 use Rattle.market.specs.Markets.{making, state, room_of, ComesWith}
-use Rattle.market.proofs.Moves.{roomy, on_floor, day_comes, now_comes}
+use Rattle.market.proofs.Moves.{roomy, on_floor, day_comes}
 use Rattle.market.proofs.Ordered.{none_met}
 
 -- at most 64 series are listed

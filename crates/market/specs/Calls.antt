@@ -1,5 +1,5 @@
 -- What each call comes to.
-use Rattle.std.specs.Prelude.{ℕ, suc, ◌+◌, Bool, true, false, cond, eqb, List, [], Some, None, Ok, Err, Option}
+use Rattle.std.specs.Prelude.{ℕ, suc, ◌+◌, true, false, [], Some, None, Ok, Err, Option}
 use Rattle.values.specs.declared.nbbo.Nbbo.{Nbbo}
 use Rattle.values.specs.declared.order.OrderPrice.{OrderPrice}
 use Rattle.values.specs.declared.order.OrderPrice.TheVariants.{Market, Limit}
@@ -12,7 +12,6 @@ use Rattle.values.specs.declared.refusal.Refusal.TheVariants.{Screen}
 use Rattle.values.specs.declared.side.Side.{Side}
 use Rattle.values.specs.Orders.{limit_of}
 use Rattle.values.specs.References.{after}
-use Rattle.screens.specs.declared.view.View.{View}
 use Rattle.screens.specs.declared.view.Verdict.{Verdict}
 use Rattle.screens.specs.declared.view.Verdict.TheVariants.{Pass, Refused}
 use Rattle.screens.specs.declared.view.Extent.{Extent}
@@ -21,7 +20,6 @@ use Rattle.collars.specs.declared.pricing.Pricing.{Pricing}
 use Rattle.collars.specs.declared.pricing.Pricing.TheVariants.{AtLimit}
 use Rattle.collars.specs.Collars.{width_by}
 use Rattle.collars.specs.Pricings.{pricing}
-use Rattle.book.specs.declared.row.Row.{Row}
 use Rattle.book.specs.Rows.{numbered}
 use Rattle.trading.specs.declared.ticket.Ticket.{Ticket}
 use Rattle.trading.specs.Desks.{Desk, pull, second_after, advance, enter, enter_now}

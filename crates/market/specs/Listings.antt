@@ -1,5 +1,5 @@
 -- What a listing holds, and how series are added to it.
-use Rattle.std.specs.Prelude.{ℕ, zero, suc, Bool, true, false, cond, ◌&&◌, List, [], ◌∷◌, ◌++◌, length, take, Some, None, Ok, Err, Option, ◌==◌, nat_le, slice_index_or}
+use Rattle.std.specs.Prelude.{ℕ, zero, suc, Bool, ◌&&◌, List, [], ◌∷◌, ◌++◌, length, take, Some, None, Ok, Err, Option, ◌==◌, nat_le, slice_index_or}
 use Rattle.values.specs.declared.order.Kind.{Kind}
 use Rattle.values.specs.declared.order.Kind.TheVariants.{Call}
 use Rattle.book.specs.declared.row.Row.{Row}

@@ -1,5 +1,5 @@
 -- A market of the code as the definitions have it, and what a call of the code does.
-use Rattle.std.specs.Prelude.{◌≡◌, ℕ, List, []}
+use Rattle.std.specs.Prelude.{◌≡◌, ℕ, []}
 use Rattle.rolls.specs.declared.roll.Roll.{Roll}
 use Rattle.rolls.specs.Rolls.{Gains, room}
 use Rattle.book.specs.declared.row.Trade.{Trade}

@@ -1,5 +1,5 @@
 -- What a market is made of, and what its calls change.
-use Rattle.std.specs.Prelude.{ℕ, Bool, false, cond, ◌&&◌, List, [], Some, None, Option, Result, ◌==◌, slice_index_or}
+use Rattle.std.specs.Prelude.{ℕ, Bool, false, cond, ◌&&◌, List, [], None, Option, Result, ◌==◌, slice_index_or}
 use Rattle.values.specs.declared.nbbo.Nbbo.{Nbbo}
 use Rattle.values.specs.declared.order.Kind.TheVariants.{Call}
 use Rattle.values.specs.declared.reference.Reference.{Reference}

@@ -1,7 +1,6 @@
 -- What a roll gains by nothing, and by one thing after another; the room that is left.
-use Rattle.std.proofs.Common.{◌≡◌, ℕ, ◌+◌, ◌-◌, ◌<◌, ◌≤◌, List, [], ◌∷◌, ◌++◌, length, get_or, take, drop, sym, refl, ap, ◌∙◌, arith, length-append, length-take}
+use Rattle.std.proofs.Common.{◌≡◌, ℕ, ◌+◌, ◌-◌, ◌≤◌, List, [], ◌++◌, length, drop, sym, refl, ap, ◌∙◌, arith, length-append, length-take}
 use Rattle.std.proofs.lemmas.List.{append-nil, append_assoc, drop_at, drop-drop}
-use Rattle.rolls.specs.Slots.{held, Extends}
 use Rattle.rolls.specs.Rolls.{filled, room, Gains}
 use Rattle.rolls.specs.declared.roll.Roll.{Roll}
 

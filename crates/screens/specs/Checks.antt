@@ -1,6 +1,6 @@
 -- The four checks, each by its answer for every view, side and price. Prices are whole cents, and no price is divided: a half is
 -- compared by its double, a percentage by its hundredfold.
-use Rattle.std.specs.Prelude.{ℕ, ◌+◌, ◌-◌, ◌*◌, Bool, true, false, cond, ◌&&◌, Some, None, Option, nat_le, nat_lt}
+use Rattle.std.specs.Prelude.{ℕ, ◌+◌, ◌-◌, ◌*◌, Bool, cond, ◌&&◌, Some, None, Option, nat_le, nat_lt}
 use Rattle.values.specs.declared.order.Kind.{Kind}
 use Rattle.values.specs.declared.order.Kind.TheVariants.{Call, Put}
 use Rattle.values.specs.declared.reference.Reference.{Reference}

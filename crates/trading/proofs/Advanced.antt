@@ -1,8 +1,8 @@
 -- Moving the clock on in the code is moving it on by the definitions.
-use Rattle.std.proofs.Common.{◌≡◌, ℕ, zero, suc, ◌+◌, ◌-◌, ◌<◌, ◌≤◌, Bool, true, false, cond, not, ◌&&◌, ◌||◌, eqb, ltb, leb, ◌⊎◌, List, [], ◌∷◌, ◌++◌, length, Some, None, Option, sym, refl, ap, ◌∙◌, subst, inl, inr, ⊎_elim, arith}
-use Rattle.std.proofs.lemmas.Bool.{leb-true, leb-false, le-leb, lt-leb, ltb-true, lt-ltb, eqb-true, eq-eqb, ne_eqb, and_parts, and_from, and_cases, not-true, not-false, cond_both, cases_eq}
+use Rattle.std.proofs.Common.{◌≡◌, ℕ, zero, suc, ◌+◌, ◌-◌, ◌<◌, ◌≤◌, Bool, true, false, not, ◌&&◌, eqb, ltb, leb, List, [], ◌∷◌, ◌++◌, length, Some, None, Option, sym, refl, ap, ◌∙◌, subst, inl, inr, ⊎_elim, arith}
+use Rattle.std.proofs.lemmas.Bool.{leb-true, le-leb, ltb-true, lt-ltb, eqb-true, eq-eqb, ne_eqb, and_parts, and_from, and_cases, not-true, cond_both}
 use Rattle.values.specs.declared.side.Side.{Side}
-use Rattle.values.specs.Sides.{opposite, no_more_aggressive, onward}
+use Rattle.values.specs.Sides.{opposite, no_more_aggressive}
 use Rattle.rolls.specs.declared.roll.Roll.{Roll}
 use Rattle.rolls.specs.Rolls.{Gains, room}
 use Rattle.rolls.proofs.Gaining.{gains_nothing, gains_then}
@@ -11,19 +11,19 @@ use Rattle.book.specs.declared.row.Standing.{Standing}
 use Rattle.book.specs.declared.row.Standing.TheVariants.{Plain, Held, Quote}
 use Rattle.book.specs.declared.row.Due.{Due}
 use Rattle.book.specs.declared.row.Trade.{Trade}
-use Rattle.book.specs.Lists.{every, pairwise, lacking, placed}
-use Rattle.book.specs.Rows.{same_side, meets, crosses, same_maker, same_quote, numbered, precedes, agrees, agrees_instead, Sound, insert, without, row_of, once_moved, moved_to, moved_in, move_row, may_move, may_move_in}
+use Rattle.book.specs.Lists.{every, pairwise, lacking}
+use Rattle.book.specs.Rows.{same_side, meets, crosses, same_maker, numbered, precedes, agrees, agrees_instead, Sound, without, row_of, once_moved, moved_to, moved_in, move_row}
 use Rattle.book.specs.Taking.{Has}
 use Rattle.book.specs.Dues.{earliest}
 use Rattle.book.proofs.Keeps.{length_placed, length_lacking}
-use Rattle.trading.specs.Journals.{Event, Moved, trades_of}
+use Rattle.trading.specs.Journals.{trades_of}
 use Rattle.trading.specs.Desks.{Desk, highest, serve, second_after, move_on, move_standing, move_found, turn_found, turn, turns, advance}
 use Rattle.trading.specs.Doing.{desk, Trading}
 use Rattle.trading.specs.Rests.{below, clear_by, served, timely_by, timely, AtRest, due_by, MayMove}
-use Rattle.trading.proofs.Sides.{Beyond, clash, decide, not_opposite, no_more_false, not_no_more, same_side_lem, same_self, beyond_from}
-use Rattle.trading.proofs.Faces.{Role, plain, held, quote, role_of, Face, face, face_number, face_series, face_side, In, has_in, Positive, Distinct, Lacks, row_of_has, row_of_some, row_of_none, insert_in, without_in}
-use Rattle.trading.proofs.Resting.{Apart, apart_sym, Sane, Hold, HoldAs, Holding, Rested, onwards, moved_rows, move_on_sane, move_on_others, highest_in, turn_rested, turns_rested}
-use Rattle.trading.proofs.Timings.{due_count, due_length, DueIn, Timed, has_timed, Clocked, turn_clocked, turns_clocked, none_due, First, earliest_some, first_later, nobody_due, row_of_of}
+use Rattle.trading.proofs.Sides.{Beyond, clash, decide, not_opposite, no_more_false, not_no_more, same_side_lem, same_self}
+use Rattle.trading.proofs.Faces.{Role, held, role_of, Face, face, face_number, has_in, row_of_has, without_in}
+use Rattle.trading.proofs.Resting.{Apart, apart_sym, Sane, Hold, HoldAs, Rested, onwards, highest_in, turn_rested, turns_rested}
+use Rattle.trading.proofs.Timings.{due_count, due_length, DueIn, Timed, Clocked, turn_clocked, turns_clocked, none_due, earliest_some, row_of_of}
 use Rattle.trading.proofs.Each.{every_has, every_from, in_has, sound_positive, sound_distinct}
 use Rattle.trading.proofs.Entered.{highest_within, highest_insert, serve_adds}
 

@@ -1,14 +1,13 @@
 -- Going through the numbers: those that nobody wanted has are passed over.
-use Rattle.std.proofs.Common.{◌≡◌, ℕ, zero, suc, ◌+◌, ◌-◌, ◌<◌, ◌≤◌, Bool, true, false, cond, not, ◌&&◌, eqb, ltb, leb, ◌⊎◌, List, [], ◌∷◌, Some, None, Option, sym, refl, ap, ◌∙◌, subst, inl, inr, ⊎_elim, arith}
-use Rattle.std.proofs.lemmas.Bool.{leb-true, leb-false, ltb-true, ltb-false, le-leb, eqb-true, eqb-false, and_parts, and_cases, and_from, not-true, not-false, cond_both, cases_eq}
-use Rattle.values.specs.Sides.{opposite, no_more_aggressive}
+use Rattle.std.proofs.Common.{◌≡◌, ℕ, zero, suc, ◌+◌, ◌<◌, ◌≤◌, Bool, true, false, cond, not, eqb, ltb, leb, List, [], ◌∷◌, Some, None, Option, sym, refl, ap, ◌∙◌, subst, inl, inr, ⊎_elim, arith}
+use Rattle.std.proofs.lemmas.Bool.{leb-true, ltb-true, ltb-false, le-leb, eqb-false, and_parts, and_from, not-true, cond_both, cases_eq}
 use Rattle.book.specs.declared.row.Row.{Row}
 use Rattle.book.specs.Lists.{every, pairwise}
 use Rattle.book.specs.Taking.{Has}
-use Rattle.book.specs.Rows.{same_side, meets, crosses, same_quote, agrees, sized, Sound, row_of, lower, lowest, wanted_from}
+use Rattle.book.specs.Rows.{agrees, sized, Sound, row_of, lower, lowest, wanted_from}
 use Rattle.trading.specs.Desks.{Desk, each_number}
 use Rattle.trading.proofs.Sides.{clash, decide}
-use Rattle.trading.proofs.Faces.{Face, face, In, has_in, row_of_has, row_of_some, Positive, Lacks, Distinct}
+use Rattle.trading.proofs.Faces.{Face, face, In, row_of_has, row_of_some, Positive, Distinct}
 
 -- ---- what the book's type says of its rows
 

@@ -1,9 +1,8 @@
 -- Entering in the code is entering by the definitions: the balance meets no row, and there is a place for it.
-use Rattle.std.proofs.Common.{◌≡◌, ℕ, zero, suc, ◌+◌, ◌-◌, ◌<◌, ◌≤◌, max, Bool, true, false, cond, not, ◌&&◌, eqb, ltb, leb, ◌⊎◌, List, [], ◌∷◌, ◌++◌, reverse, length, get_or, drop, Some, None, Option, unwrap_or, sym, refl, ap, ◌∙◌, subst, inl, inr, ⊎_elim, arith, length-append, length-drop, length-take, get_or-drop}
+use Rattle.std.proofs.Common.{◌≡◌, ℕ, zero, suc, ◌+◌, ◌-◌, ◌<◌, ◌≤◌, max, Bool, true, false, cond, not, ◌&&◌, eqb, ltb, ◌⊎◌, List, [], ◌∷◌, ◌++◌, reverse, length, get_or, drop, Some, None, Option, unwrap_or, sym, refl, ap, ◌∙◌, subst, inl, inr, arith, length-drop, length-take, get_or-drop}
 use mathlib.Core.List.{reverse-cons, reverse-reverse}
 use Rattle.std.specs.List.{AllByRecursion}
-use Rattle.std.proofs.lemmas.Bool.{leb-true, leb-false, eqb-true, ne_eqb, eq-eqb, and_parts, and_from, and_cases, not-true, not-false, cond_both}
-use Rattle.values.specs.declared.side.Side.{Side}
+use Rattle.std.proofs.lemmas.Bool.{leb-true, leb-false, eqb-true, ne_eqb, and_parts, not-true, cond_both}
 use Rattle.values.specs.Sides.{opposite, NoMoreAggressive, no_more_aggressive}
 use Rattle.collars.specs.declared.pricing.Pricing.{Pricing}
 use Rattle.collars.specs.declared.pricing.Pricing.TheVariants.{AtLimit, Wide, Narrow}
@@ -18,17 +17,15 @@ use Rattle.book.specs.declared.row.Taker.{Taker}
 use Rattle.book.specs.declared.row.Trade.{Trade}
 use Rattle.book.specs.declared.row.Withdrawal.{Withdrawal}
 use Rattle.book.specs.Lists.{every, placed}
-use Rattle.book.specs.Rows.{same_side, stands_at, precedes, meets, crosses, same_maker, same_quote, agrees, sized, Sound, insert, row_of}
-use Rattle.book.specs.Trades.{trade_with}
-use Rattle.book.specs.Taking.{in_reach, Fill, take, Has, Fair, Took}
+use Rattle.book.specs.Rows.{same_side, stands_at, precedes, crosses, same_maker, same_quote, agrees, Sound, insert, row_of}
+use Rattle.book.specs.Taking.{Fill, take, Has, Fair, Took}
 use Rattle.book.proofs.Keeps.{length_placed}
-use Rattle.book.proofs.Takes.{take_few}
 use Rattle.trading.specs.declared.ticket.Ticket.{Ticket}
 use Rattle.trading.specs.Journals.{Event, trades_of, withdrawals_of, noting}
-use Rattle.trading.specs.Desks.{Desk, highest, serve, taker, last_price, held_at, standing_by, standing_of, row_for, show_first, show_last, rest_rows, rest_journal, rest, enter, lapse, enter_now, each_number, serve_one, serve_found, serve_standing, serve_row}
+use Rattle.trading.specs.Desks.{Desk, highest, serve, taker, last_price, held_at, standing_by, row_for, show_first, rest_rows, rest_journal, rest, enter, lapse, enter_now, each_number, serve_one, serve_found, serve_standing, serve_row}
 use Rattle.trading.specs.Doing.{desk, Trading, Withdrawing, is_quote_of, rivals, displays_in_reach}
-use Rattle.trading.proofs.Sides.{Beyond, clash, decide, no_more_refl, no_more_true, not_no_more, beyond_from, same_side_lem}
-use Rattle.trading.proofs.Faces.{Role, plain, held, quote, role_of, Face, face, face_number, face_series, face_side, In, take_in, insert_in, has_in, Positive, take_clear, take_left, reach_true}
+use Rattle.trading.proofs.Sides.{decide, no_more_refl, no_more_true, not_no_more, beyond_from, same_side_lem}
+use Rattle.trading.proofs.Faces.{Role, plain, held, quote, role_of, Face, face, face_series, face_side, In, take_in, has_in, take_clear, reach_true}
 use Rattle.trading.proofs.Resting.{highest_in}
 use Rattle.trading.proofs.Volumes.{take_fewer, trades_noted, withdrawals_noted, reversed_length}
 use Rattle.trading.proofs.Each.{every_has, every_from, in_has, sound_positive}

@@ -1,17 +1,17 @@
 -- What trading, serving, moving and withdrawing leave of the rows, by what of a row stays while it rests.
-use Rattle.std.proofs.Common.{◌≡◌, ℕ, zero, suc, ◌+◌, ◌-◌, ◌<◌, ◌≤◌, min, Bool, true, false, cond, not, ◌&&◌, ◌||◌, eqb, ltb, leb, ◌⊎◌, List, [], ◌∷◌, Some, None, Option, sym, refl, ap, ◌∙◌, subst, inl, inr, ⊎_elim, arith}
-use Rattle.std.proofs.lemmas.Bool.{leb-true, leb-false, eqb-true, eqb-false, eq-eqb, ne_eqb, and_parts, and_cases, cond_both}
+use Rattle.std.proofs.Common.{◌≡◌, ℕ, zero, suc, ◌-◌, ◌<◌, ◌≤◌, min, true, false, eqb, ltb, ◌⊎◌, List, [], ◌∷◌, Some, None, sym, refl, ap, ◌∙◌, subst, inl, inr, ⊎_elim, arith}
+use Rattle.std.proofs.lemmas.Bool.{leb-true, leb-false, eqb-true, eqb-false, eq-eqb, and_parts, and_cases, cond_both}
 use Rattle.values.specs.declared.side.Side.{Side}
-use Rattle.values.specs.Sides.{opposite, NoMoreAggressive, no_more_aggressive}
+use Rattle.values.specs.Sides.{opposite, NoMoreAggressive}
 use Rattle.book.specs.declared.row.Row.{Row}
 use Rattle.book.specs.declared.row.Standing.{Standing}
 use Rattle.book.specs.declared.row.Standing.TheVariants.{Plain, Held, Quote}
 use Rattle.book.specs.declared.row.Taker.{Taker}
 use Rattle.book.specs.declared.row.Trade.{Trade}
-use Rattle.book.specs.Lists.{or_else, found, placed, lacking}
+use Rattle.book.specs.Lists.{found, placed, lacking}
 use Rattle.book.specs.Rows.{same_side, precedes, numbered, insert, without, row_of, renewed, resized, put, cut, settle}
 use Rattle.book.specs.Trades.{trade_with}
-use Rattle.book.specs.Taking.{in_reach, amount, note, Fill, take, Has}
+use Rattle.book.specs.Taking.{in_reach, amount, note, take, Has}
 use Rattle.trading.proofs.Sides.{Beyond, clash, decide, no_more_true, no_more_false, same_side_lem, same_self}
 
 -- what a row is, without its moment

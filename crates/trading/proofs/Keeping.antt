@@ -1,25 +1,20 @@
 -- What holds of the rows between calls holds after each operation.
-use Rattle.std.proofs.Common.{◌≡◌, ℕ, zero, suc, ◌+◌, ◌-◌, ◌<◌, ◌≤◌, Bool, true, false, cond, not, ◌&&◌, eqb, ltb, leb, ◌⊎◌, List, [], ◌∷◌, length, Some, None, Option, sym, refl, ap, ◌∙◌, subst, inl, inr, ⊎_elim, arith}
-use Rattle.std.specs.List.{AllByRecursion}
+use Rattle.std.proofs.Common.{◌≡◌, ℕ, zero, suc, ◌+◌, ◌-◌, ◌<◌, ◌≤◌, Bool, true, eqb, ltb, List, [], ◌∷◌, Some, None, Option, sym, refl, subst, arith}
 use Rattle.std.proofs.lemmas.Bool.{cond_both, and_parts, and_from, ltb-true, lt-ltb}
-use Rattle.values.specs.Sides.{opposite}
 use Rattle.collars.specs.declared.pricing.Pricing.{Pricing}
 use Rattle.collars.specs.Pricings.{reach_of, display_of, collar_of}
 use Rattle.book.specs.declared.row.Row.{Row}
-use Rattle.book.specs.declared.row.Standing.{Standing}
-use Rattle.book.specs.declared.row.Standing.TheVariants.{Plain, Held, Quote}
-use Rattle.book.specs.declared.row.Trade.{Trade}
-use Rattle.book.specs.Rows.{Sound, insert, without, row_of}
-use Rattle.book.specs.Taking.{Fill, take, Fair}
+use Rattle.book.specs.declared.row.Standing.TheVariants.{Plain, Held}
+use Rattle.book.specs.Rows.{Sound, without, row_of}
+use Rattle.book.specs.Taking.{Fill, take}
 use Rattle.book.proofs.Takes.{take_fair}
 use Rattle.trading.specs.declared.ticket.Ticket.{Ticket}
-use Rattle.trading.specs.Journals.{Event}
-use Rattle.trading.specs.Desks.{Desk, highest, each_number, withdrawn, pull_found, pull_one, pull, second_after, taker, last_price, held_at, standing_by, standing_of, row_for, rest_rows, rest_journal, rest, enter, enter_now, serve}
+use Rattle.trading.specs.Desks.{Desk, highest, each_number, withdrawn, pull_found, pull_one, pull, second_after, taker, last_price, standing_by, row_for, rest_rows, rest, enter, enter_now}
 use Rattle.trading.specs.Doing.{desk, displays_in_reach}
 use Rattle.trading.specs.Rests.{below, AtRest}
 use Rattle.trading.proofs.Sides.{beyond_from}
-use Rattle.trading.proofs.Faces.{Face, face, In, take_in, take_clear}
-use Rattle.trading.proofs.Resting.{Sane, Holding, Others, Rested, Newcomer, insert_sane, insert_others, weaken, take_sane, serve_rested, pull_rested}
+use Rattle.trading.proofs.Faces.{Face, In, take_in, take_clear}
+use Rattle.trading.proofs.Resting.{Sane, Holding, Others, Rested, insert_sane, insert_others, weaken, take_sane, serve_rested, pull_rested}
 use Rattle.trading.proofs.Timings.{DueIn, Timed, take_timed, insert_timed, without_timed, serve_timed}
 use Rattle.trading.proofs.Advanced.{highest_top, rest_from, rest_back}
 use Rattle.trading.proofs.Each.{every_has, every_from}

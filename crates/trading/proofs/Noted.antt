@@ -1,5 +1,5 @@
 -- Which operations note trades, and which withdrawals.
-use Rattle.std.proofs.Common.{◌≡◌, ℕ, zero, suc, Bool, true, false, cond, eqb, leb, List, [], ◌∷◌, ◌++◌, map, reverse, length, Some, None, Option, sym, refl, ap, ◌∙◌, append_assoc}
+use Rattle.std.proofs.Common.{◌≡◌, ℕ, zero, suc, Bool, eqb, leb, List, [], ◌∷◌, ◌++◌, reverse, length, Some, None, Option, sym, refl, ap, ◌∙◌, append_assoc}
 use Rattle.std.proofs.lemmas.Bool.{cond_both}
 use Rattle.collars.specs.declared.pricing.Pricing.{Pricing}
 use Rattle.collars.specs.declared.pricing.Pricing.TheVariants.{AtLimit, Wide, Narrow}
@@ -9,13 +9,12 @@ use Rattle.book.specs.declared.row.Standing.{Standing}
 use Rattle.book.specs.declared.row.Standing.TheVariants.{Plain, Held, Quote}
 use Rattle.book.specs.declared.row.Due.{Due}
 use Rattle.book.specs.declared.row.Trade.{Trade}
-use Rattle.book.specs.declared.row.Withdrawal.{Withdrawal}
 use Rattle.book.specs.Rows.{without, row_of}
 use Rattle.book.specs.Dues.{earliest}
-use Rattle.book.specs.Taking.{Fill, take}
+use Rattle.book.specs.Taking.{take}
 use Rattle.trading.specs.declared.ticket.Ticket.{Ticket}
 use Rattle.trading.specs.Journals.{Event, trades_of, withdrawals_of, noting}
-use Rattle.trading.specs.Desks.{Desk, highest, each_number, taker_of, serve_row, serve_standing, serve_found, serve_one, serve, withdrawn, pull_found, pull_one, pull, move_on, move_standing, move_found, turn_found, turn, turns, advance, taker, last_price, show_first, show_last, rest_rows, rest_journal, rest, enter}
+use Rattle.trading.specs.Desks.{Desk, highest, each_number, taker_of, serve_row, serve_standing, serve_found, serve_one, serve, withdrawn, pull_found, pull_one, pull, move_on, move_standing, move_found, turn_found, turn, turns, advance, taker, last_price, show_first, rest_rows, rest_journal, rest, enter}
 use Rattle.trading.specs.Doing.{desk}
 use Rattle.trading.proofs.Volumes.{trades_noted, withdrawals_noted}
 use Rattle.trading.proofs.Entered.{serve_adds}

@@ -1,5 +1,5 @@
 -- Every row stays in its series: each operation keeps rows of one of 64 series.
-use Rattle.std.proofs.Common.{◌≡◌, ℕ, zero, suc, ◌<◌, Bool, true, false, cond, ltb, leb, ◌⊎◌, List, [], ◌∷◌, length, Some, None, Option, sym, refl, ap, ◌∙◌, subst, inl, inr, ⊎_elim}
+use Rattle.std.proofs.Common.{◌≡◌, ℕ, zero, suc, ◌<◌, Bool, true, leb, List, [], length, Some, None, Option, sym, refl, subst, ⊎_elim}
 use Rattle.std.proofs.lemmas.Bool.{ltb-true, lt-ltb, cond_both}
 use Rattle.collars.specs.declared.pricing.Pricing.{Pricing}
 use Rattle.collars.specs.Pricings.{reach_of, display_of}
@@ -8,11 +8,11 @@ use Rattle.book.specs.declared.row.Standing.{Standing}
 use Rattle.book.specs.declared.row.Standing.TheVariants.{Plain, Held, Quote}
 use Rattle.book.specs.declared.row.Due.{Due}
 use Rattle.book.specs.Lists.{every}
-use Rattle.book.specs.Rows.{without, row_of, moved_to, moved_in, move_row}
+use Rattle.book.specs.Rows.{without, row_of, moved_to, moved_in}
 use Rattle.book.specs.Dues.{earliest}
 use Rattle.book.specs.Taking.{Fill, take}
 use Rattle.trading.specs.declared.ticket.Ticket.{Ticket}
-use Rattle.trading.specs.Desks.{Desk, highest, each_number, pull_one, pull, second_after, move_on, move_standing, move_found, turn_found, turn, turns, advance, taker, last_price, row_for, show_first, rest_rows, rest, enter, enter_now, serve}
+use Rattle.trading.specs.Desks.{Desk, highest, pull, second_after, move_on, move_standing, move_found, turn_found, turn, turns, advance, taker, last_price, row_for, show_first, rest_rows, rest, enter, enter_now, serve}
 use Rattle.trading.specs.Journals.{noting}
 use Rattle.trading.specs.Doing.{desk}
 use Rattle.trading.specs.Rests.{in_series}

@@ -1,5 +1,5 @@
 -- Withdrawing in the code is withdrawing by the definitions.
-use Rattle.std.proofs.Common.{◌≡◌, ℕ, zero, suc, ◌+◌, ◌-◌, ◌<◌, ◌≤◌, Bool, true, false, cond, ◌&&◌, eqb, leb, ◌⊎◌, List, [], ◌∷◌, ◌++◌, length, Some, None, Option, sym, refl, ap, ◌∙◌, subst, inl, inr, ⊎_elim, arith}
+use Rattle.std.proofs.Common.{◌≡◌, ℕ, zero, suc, ◌+◌, ◌-◌, ◌<◌, ◌≤◌, Bool, true, false, cond, leb, List, [], ◌∷◌, Some, None, Option, sym, refl, ap, ◌∙◌, subst, inl, inr, arith}
 use Rattle.std.proofs.lemmas.Bool.{leb-true, and_parts, eq-eqb, cond_both}
 use Rattle.rolls.specs.declared.roll.Roll.{Roll}
 use Rattle.rolls.specs.Rolls.{Gains, room}
@@ -9,14 +9,13 @@ use Rattle.book.specs.declared.row.Withdrawal.{Withdrawal}
 use Rattle.book.specs.Lists.{lacking}
 use Rattle.book.specs.Taking.{Has}
 use Rattle.book.specs.Rows.{Sound, numbered, without, row_of, lowest, wanted_from}
-use Rattle.trading.specs.Journals.{Event, withdrawals_of}
+use Rattle.trading.specs.Journals.{withdrawals_of}
 use Rattle.trading.specs.Desks.{Desk, highest, each_number, withdrawn, pull_found, pull_one, pull}
 use Rattle.trading.specs.Doing.{desk, Withdrawing, count}
-use Rattle.trading.proofs.Sides.{clash}
-use Rattle.trading.proofs.Faces.{Face, In, Within, has_in, Distinct, without_in}
+use Rattle.trading.proofs.Faces.{In, Within, has_in, Distinct, without_in}
 use Rattle.trading.proofs.Resting.{highest_in}
 use Rattle.trading.proofs.Timings.{row_of_of}
-use Rattle.trading.proofs.Each.{Lowest, lowest_some, each_next, each_end, sound_distinct}
+use Rattle.trading.proofs.Each.{lowest_some, each_next, each_end, sound_distinct}
 
 -- ---- how many rows pass
 

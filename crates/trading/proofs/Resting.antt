@@ -1,20 +1,18 @@
 -- The rows of a desk throughout a call, and at rest: each held order has no contra row in its reach.
-use Rattle.std.proofs.Common.{◌≡◌, ℕ, zero, suc, ◌+◌, ◌-◌, ◌<◌, ◌≤◌, Bool, true, false, cond, eqb, ltb, leb, ◌⊎◌, List, [], ◌∷◌, Some, None, Option, sym, refl, ap, ◌∙◌, subst, inl, inr, ⊎_elim, arith}
-use Rattle.std.proofs.lemmas.Bool.{leb-true, leb-false, eqb-true, eqb-false, cond_both, cases_eq}
-use Rattle.values.specs.declared.side.Side.{Side}
-use Rattle.values.specs.Sides.{opposite, NoMoreAggressive, onward}
+use Rattle.std.proofs.Common.{◌≡◌, ℕ, zero, suc, ◌-◌, ◌<◌, ◌≤◌, Bool, eqb, ltb, leb, List, [], ◌∷◌, Some, None, Option, sym, refl, ap, ◌∙◌, subst, inl, inr, ⊎_elim, arith}
+use Rattle.std.proofs.lemmas.Bool.{leb-true, leb-false, eqb-false, cond_both, cases_eq}
+use Rattle.values.specs.Sides.{opposite, onward}
 use Rattle.book.specs.declared.row.Row.{Row}
 use Rattle.book.specs.declared.row.Standing.{Standing}
 use Rattle.book.specs.declared.row.Standing.TheVariants.{Plain, Held, Quote}
 use Rattle.book.specs.declared.row.Due.{Due}
 use Rattle.book.specs.declared.row.Taker.{Taker}
-use Rattle.book.specs.Rows.{insert, without, row_of, settle, once_moved, moved_to, moved_in, move_row}
+use Rattle.book.specs.Rows.{insert, without, row_of, moved_to}
 use Rattle.book.specs.Dues.{earliest}
-use Rattle.book.specs.Taking.{Fill, take, Has}
-use Rattle.trading.specs.Journals.{Event}
-use Rattle.trading.specs.Desks.{Desk, highest, each_number, taker_of, serve_row, serve_standing, serve_found, serve_one, serve, withdrawn, pull_found, pull_one, pull, second_after, move_on, move_standing, move_found, turn_found, turn, turns, advance}
-use Rattle.trading.proofs.Sides.{Beyond, clash, decide, not_opposite, opposite_back, beyond_back}
-use Rattle.trading.proofs.Faces.{Role, plain, held, quote, role_of, Face, face, face_number, face_series, face_side, In, Within, take_in, settle_in, insert_in, without_in, row_of_some, row_of_none, has_in, row_of_has, Positive, has_positive, take_positive, settle_positive, insert_positive, without_positive, Lacks, Distinct, take_distinct, settle_distinct, insert_distinct, without_distinct, unique, settle_gone, take_clear, take_has}
+use Rattle.book.specs.Taking.{take, Has}
+use Rattle.trading.specs.Desks.{Desk, highest, each_number, taker_of, serve_row, serve_standing, serve_found, serve_one, serve, withdrawn, pull_found, pull_one, pull, second_after, move_on, move_standing, move_found, turn_found, turn, turns}
+use Rattle.trading.proofs.Sides.{Beyond, decide, not_opposite, opposite_back, beyond_back}
+use Rattle.trading.proofs.Faces.{Role, plain, held, quote, role_of, Face, face, face_number, face_series, In, Within, take_in, settle_in, insert_in, without_in, row_of_some, row_of_none, has_in, row_of_has, Positive, has_positive, take_positive, settle_positive, insert_positive, without_positive, Lacks, Distinct, take_distinct, settle_distinct, insert_distinct, without_distinct, unique, settle_gone, take_clear, take_has}
 
 -- two rows of one series and of opposite sides do not meet
 abbrev pub Apart : Face → Face → Type 0

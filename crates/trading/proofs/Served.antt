@@ -1,6 +1,6 @@
 -- Serving in the code is serving by the definitions.
-use Rattle.std.proofs.Common.{◌≡◌, ℕ, zero, suc, ◌+◌, ◌-◌, ◌<◌, ◌≤◌, Bool, true, false, cond, ◌&&◌, eqb, ltb, leb, ◌⊎◌, List, [], ◌∷◌, ◌++◌, reverse, length, Some, None, Option, sym, refl, ap, ◌∙◌, subst, inl, inr, ⊎_elim, arith, length-append}
-use Rattle.std.proofs.lemmas.Bool.{leb-true, and_parts, and_from, eqb-true, eq-eqb, cond_both}
+use Rattle.std.proofs.Common.{◌≡◌, ℕ, ◌+◌, ◌-◌, ◌≤◌, true, false, eqb, leb, List, [], ◌++◌, length, Some, None, Option, sym, refl, ap, ◌∙◌, subst, arith}
+use Rattle.std.proofs.lemmas.Bool.{leb-true, and_parts, eqb-true, eq-eqb, cond_both}
 use Rattle.rolls.specs.declared.roll.Roll.{Roll}
 use Rattle.rolls.specs.Rolls.{Gains, room}
 use Rattle.rolls.proofs.Gaining.{gains_nothing, gains_then, room_after}
@@ -9,16 +9,16 @@ use Rattle.book.specs.declared.row.Standing.{Standing}
 use Rattle.book.specs.declared.row.Standing.TheVariants.{Plain, Held, Quote}
 use Rattle.book.specs.declared.row.Trade.{Trade}
 use Rattle.book.specs.Rows.{Sound, row_of, settle, lowest, wanted_from}
-use Rattle.book.specs.Taking.{Fill, take, Took, Has}
+use Rattle.book.specs.Taking.{take, Took, Has}
 use Rattle.trading.specs.Journals.{Event, trades_of, noting}
 use Rattle.trading.specs.Desks.{Desk, highest, each_number, taker_of, serve_row, serve_standing, serve_found, serve_one, serve}
 use Rattle.trading.specs.Doing.{desk, Trading, is_held, held_in}
-use Rattle.trading.proofs.Sides.{clash, decide}
-use Rattle.trading.proofs.Faces.{has_in, face_number, Positive, Distinct, row_of_has, row_of_some}
+use Rattle.trading.proofs.Sides.{clash}
+use Rattle.trading.proofs.Faces.{has_in, Distinct}
 use Rattle.trading.proofs.Resting.{highest_in, each_within}
 use Rattle.trading.proofs.Timings.{row_of_of}
 use Rattle.trading.proofs.Volumes.{serve_fewer, trades_noted, reversed_length}
-use Rattle.trading.proofs.Each.{Lowest, lowest_some, each_next, each_end, sound_positive, sound_distinct}
+use Rattle.trading.proofs.Each.{lowest_some, each_next, each_end, sound_positive, sound_distinct}
 
 -- one held order
 pub served : (due : ℕ) (r : Row) (c reach : ℕ) → reach ≡ (taker_of r c).reach → (rs mid after : List Row) (roll₀ roll : Roll Trade) (left : ℕ) → Took due (record { number = r.number; series = r.series; side = r.side; reach = reach }) r.size left rs mid roll₀ roll → after ≡ settle due (r.size - left) r.number mid → Trading after roll₀ roll (serve_row due r c (desk rs))

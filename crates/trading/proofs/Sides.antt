@@ -1,5 +1,5 @@
 -- Arithmetic of the two sides.
-use Rattle.std.proofs.Common.{◌≡◌, ℕ, ◌+◌, ◌-◌, ◌<◌, ◌≤◌, min, max, Bool, true, false, leb, refl, arith}
+use Rattle.std.proofs.Common.{◌≡◌, ℕ, ◌<◌, Bool, true, false, refl, arith}
 use Rattle.std.proofs.lemmas.Bool.{leb-true, leb-false}
 use Rattle.values.specs.declared.side.Side.{Side}
 use Rattle.values.specs.declared.side.Side.TheVariants.{Buy, Sell}

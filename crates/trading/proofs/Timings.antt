@@ -1,7 +1,6 @@
 -- When held orders are due, and the bound of the clock's loop: no order moves twice while the clock moves on by a second at most.
-use Rattle.std.proofs.Common.{◌≡◌, ℕ, zero, suc, ◌+◌, ◌-◌, ◌<◌, ◌≤◌, Bool, true, false, cond, ◌&&◌, ◌||◌, eqb, ltb, leb, ◌⊎◌, List, [], ◌∷◌, length, Some, None, Option, sym, refl, ap, ◌∙◌, subst, inl, inr, ⊎_elim, arith}
-use Rattle.std.proofs.lemmas.Bool.{leb-true, leb-false, lt-leb, ltb-true, ltb-false, eqb-true, eqb-false, eq-eqb, and_parts, or_cases, or_parts, cond_both}
-use Rattle.values.specs.Sides.{opposite}
+use Rattle.std.proofs.Common.{◌≡◌, ℕ, zero, suc, ◌+◌, ◌-◌, ◌<◌, ◌≤◌, Bool, true, false, cond, eqb, ltb, leb, List, [], ◌∷◌, length, Some, None, Option, sym, refl, ap, ◌∙◌, subst, inl, inr, ⊎_elim, arith}
+use Rattle.std.proofs.lemmas.Bool.{leb-true, leb-false, lt-leb, ltb-true, ltb-false, eqb-true, eq-eqb, and_parts, or_cases, or_parts, cond_both}
 use Rattle.book.specs.declared.row.Row.{Row}
 use Rattle.book.specs.declared.row.Standing.{Standing}
 use Rattle.book.specs.declared.row.Standing.TheVariants.{Plain, Held, Quote}
@@ -12,11 +11,11 @@ use Rattle.book.specs.Lists.{placed, lacking}
 use Rattle.book.specs.Rows.{precedes, numbered, insert, without, row_of, renewed, resized, put, cut, settle, once_moved, moved_to}
 use Rattle.book.specs.Dues.{due_at, sooner, soonest, earliest}
 use Rattle.book.specs.Trades.{trade_with}
-use Rattle.book.specs.Taking.{amount, note, Fill, take, Has}
-use Rattle.trading.specs.Desks.{Desk, highest, each_number, taker_of, serve_row, serve_standing, serve_found, serve_one, serve, second_after, move_on, move_standing, move_found, turn_found, turn, turns, advance}
-use Rattle.trading.proofs.Sides.{clash, decide}
-use Rattle.trading.proofs.Faces.{Face, face, has_in, row_of_has, row_of_some, row_of_none, Distinct, In, unique}
-use Rattle.trading.proofs.Resting.{Sane, Rested, Others, served_to, onwards, moved_rows, move_on_sane, move_on_others, row_of_itself, turn_rested}
+use Rattle.book.specs.Taking.{amount, note, take, Has}
+use Rattle.trading.specs.Desks.{Desk, highest, each_number, taker_of, serve_row, serve_standing, serve_found, serve_one, serve, second_after, move_on, move_standing, move_found, turn_found, turn, turns}
+use Rattle.trading.proofs.Sides.{decide}
+use Rattle.trading.proofs.Faces.{face, has_in, row_of_has, row_of_some, row_of_none, Distinct}
+use Rattle.trading.proofs.Resting.{Rested, onwards, moved_rows, turn_rested}
 
 -- ---- how many rows are due at a moment
 

@@ -1,5 +1,5 @@
 -- How many trades serving makes: each of them but one takes a row away.
-use Rattle.std.proofs.Common.{◌≡◌, ℕ, zero, suc, ◌+◌, ◌-◌, ◌<◌, ◌≤◌, min, Bool, true, false, cond, eqb, ltb, leb, ◌⊎◌, List, [], ◌∷◌, ◌++◌, map, reverse, length, sym, refl, ap, ◌∙◌, subst, inl, inr, ⊎_elim, append_assoc, append-nil, arith, length-append}
+use Rattle.std.proofs.Common.{◌≡◌, ℕ, zero, suc, ◌+◌, ◌-◌, ◌<◌, ◌≤◌, min, true, false, ltb, List, [], ◌∷◌, ◌++◌, reverse, length, sym, refl, ap, ◌∙◌, subst, inl, inr, append_assoc, append-nil, arith, length-append}
 use mathlib.Core.List.{reverse-cons}
 use Rattle.std.proofs.lemmas.Bool.{leb-true, leb-false, eqb-true, eqb-false, cond_both}
 use Rattle.book.specs.declared.row.Row.{Row}
@@ -7,13 +7,13 @@ use Rattle.book.specs.declared.row.Taker.{Taker}
 use Rattle.book.specs.declared.row.Trade.{Trade}
 use Rattle.book.specs.Rows.{numbered, put, cut, settle}
 use Rattle.book.specs.Trades.{trade_with}
-use Rattle.book.specs.Taking.{in_reach, amount, note, Fill, take, Has}
+use Rattle.book.specs.Taking.{in_reach, amount, note, take, Has}
 use Rattle.book.proofs.Settles.{length_settle}
 use Rattle.book.proofs.Takes.{take_few}
-use Rattle.trading.specs.Journals.{Event, Shown, Moved, Traded, Withdrawn, trades_of, withdrawals_of, noting}
-use Rattle.trading.specs.Desks.{Desk, taker_of, serve_row}
+use Rattle.trading.specs.Journals.{Event, trades_of, withdrawals_of, noting}
+use Rattle.trading.specs.Desks.{taker_of}
 use Rattle.trading.proofs.Sides.{decide, not_opposite}
-use Rattle.trading.proofs.Faces.{has_in, Positive, Distinct, take_has, take_positive, take_distinct, take_left, has_positive, face}
+use Rattle.trading.proofs.Faces.{has_in, Positive, Distinct, take_has, take_distinct, take_left, has_positive, face}
 
 length_note : (q : ℕ) (e : Trade) (j : List Trade) → length (note q e j) ≤ suc (length j)
 length_note zero e j = omega arith

@@ -1,7 +1,6 @@
 -- What is done to the rows within a call, and noted in its journal: held orders are served and moved, rows are withdrawn, an order or
 -- quote enters.
-use Rattle.std.specs.Prelude.{ℕ, zero, suc, ◌+◌, ◌-◌, max, Bool, true, false, cond, ◌&&◌, List, [], ◌∷◌, length, Some, None, Option, ◌==◌, nat_le}
-use Rattle.values.specs.declared.side.Side.{Side}
+use Rattle.std.specs.Prelude.{ℕ, zero, suc, ◌+◌, ◌-◌, max, Bool, cond, List, [], ◌∷◌, length, Some, None, Option, ◌==◌, nat_le}
 use Rattle.values.specs.Sides.{onward}
 use Rattle.collars.specs.declared.pricing.Pricing.{Pricing}
 use Rattle.collars.specs.declared.pricing.Pricing.TheVariants.{AtLimit, Wide, Narrow}

@@ -1,5 +1,5 @@
 -- What holds of the rows between calls.
-use Rattle.std.specs.Prelude.{◌≡◌, ℕ, ◌+◌, Bool, true, false, cond, not, ◌&&◌, List, Some, None, Option, nat_le, nat_lt}
+use Rattle.std.specs.Prelude.{◌≡◌, ℕ, Bool, true, cond, not, ◌&&◌, List, Some, None, Option, nat_le, nat_lt}
 use Rattle.values.specs.Sides.{onward}
 use Rattle.book.specs.declared.row.Row.{Row}
 use Rattle.book.specs.declared.row.Due.{Due}

@@ -1,8 +1,8 @@
 -- Every run of a splitter answers the lines of its input.
 use Rattle.std.proofs.Common.{◌≡◌, ℕ, suc, ◌+◌, ◌<◌, ◌≤◌, Bool, true, false, cond, ◌||◌, eqb, ltb, leb, List, [], ◌∷◌, ◌++◌, length, take, drop, Some, None, Option, sym, refl, ap, ◌∙◌, subst, ⊎_elim, append_assoc, append-nil, add-one, arith, length-append}
-use Rattle.std.proofs.lemmas.Bool.{cases_Bool, cond-true, cond-false, le-leb, lt-leb, leb-true, leb-false}
+use Rattle.std.proofs.lemmas.Bool.{cases_Bool, cond-true, cond-false, le-leb, lt-leb, leb-true}
 use Rattle.std.specs.Option.{option_map}
-use Rattle.wire.specs.Splitting.{Item, ended, unended, lines_from, newline_at, items, left, goes_on, at_end, Move, feed, step, input, answered, Spent, AnswersTheLines}
+use Rattle.wire.specs.Splitting.{ended, unended, lines_from, newline_at, items, left, goes_on, at_end, Move, feed, step, input, answered, Spent, AnswersTheLines}
 
 later_none : (o : Option ℕ) → option_map (λ k. k + 1) o ≡ None → o ≡ None
 later_none None e = refl

@@ -3,7 +3,7 @@ use Rattle.std.specs.Prelude.{◌≡◌, ℕ, ◌+◌, ◌≤◌, List, drop, So
 use Rattle.values.specs.declared.refusal.Refusal.{Refusal}
 use Rattle.values.specs.declared.refusal.Refusal.TheVariants.{Shape}
 use Rattle.wire_write.specs.declared.tail.Tail.{Tail}
-use Rattle.wire_format.specs.Format.{Text, glued}
+use Rattle.wire_format.specs.Format.{Text}
 
 -- the bytes that are made
 abbrev pub made : Tail → List ℕ

@@ -1,4 +1,4 @@
-use Rattle.std.proofs.Common.{◌≡◌, ◌+◌, List, sym, subst, arith}
+use Rattle.std.proofs.Common.{◌+◌, List, sym, subst, arith}
 use Rattle.book.specs.Books.{rows}
 use Rattle.book.specs.declared.row.Row.{Row}
 use Rattle.book_speed.specs.Tame.{Tame}

@@ -1,4 +1,3 @@
-use Rattle.std.proofs.Common.{◌≤◌}
 use Rattle.book.proofs.Shifts.{Closed}
 use Rattle.book.proofs.places.close_place.Given as goal
 

@@ -1,5 +1,4 @@
-use Rattle.std.proofs.Common.{◌≡◌, ℕ, ◌+◌, ◌<◌, ◌≤◌, true, List, length, sym, ap, subst, arith}
-use Rattle.book.specs.declared.row.Row.{Row}
+use Rattle.std.proofs.Common.{◌≡◌, ℕ, ◌+◌, true, length, sym, ap, subst, arith}
 use Rattle.book.specs.Books.{rows}
 use Rattle.book.specs.Rows.{may_move}
 use Rattle.trading.specs.Desks.{highest}

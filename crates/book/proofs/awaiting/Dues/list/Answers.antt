@@ -1,4 +1,4 @@
-use Rattle.std.proofs.Common.{◌≡◌, ◌≤◌, length, ap, subst, arith}
+use Rattle.std.proofs.Common.{◌≤◌, length, subst, arith}
 use Rattle.book.specs.Listings.{waiting}
 use Rattle.book.specs.Dues.{due_at, listed, sooner}
 use Rattle.book.specs.declared.row.Standing.{Standing}

@@ -1,4 +1,4 @@
-use Rattle.std.proofs.Common.{◌≡◌, Bool, None, sym, ap, ◌∙◌}
+use Rattle.std.proofs.Common.{Bool, None, sym, ap, ◌∙◌}
 use Rattle.values.specs.declared.side.Side.{Side}
 use Rattle.book.specs.Lists.{or_else}
 use Rattle.book.specs.Rows.{best_of}

@@ -1,4 +1,4 @@
-use Rattle.std.proofs.Common.{◌≡◌, ap, ◌∙◌}
+use Rattle.std.proofs.Common.{ap, ◌∙◌}
 use Rattle.book.specs.Lists.{head}
 use Rattle.book.specs.Books.{rows, dues}
 use Rattle.book.specs.Dues.{due_list}

@@ -1,7 +1,7 @@
-use Rattle.std.proofs.Common.{◌≡◌, ℕ, ◌<◌, ◌≤◌, true, ◌||◌, eqb, List, length, Some, None, Option, sym, refl, ap, ◌∙◌, subst, arith}
+use Rattle.std.proofs.Common.{◌≡◌, ℕ, ◌≤◌, true, ◌||◌, length, Option, sym, ap, ◌∙◌, subst, arith}
 use Rattle.std.proofs.lemmas.List.{length-take-le}
 use Rattle.book.specs.Lists.{every}
-use Rattle.book.specs.Rows.{agrees, sized, numbered, once_moved, moved_to, moved_in, may_move_in, move_row, insert, without, row_of}
+use Rattle.book.specs.Rows.{agrees, sized, numbered, moved_to, moved_in, may_move_in, insert, without}
 use Rattle.book.specs.Books.{rows}
 use Rattle.book.specs.declared.book.Book.{Book}
 use Rattle.book.specs.declared.row.Row.{Row}

@@ -1,4 +1,4 @@
-use Rattle.std.proofs.Common.{◌≡◌, sym, ◌∙◌}
+use Rattle.std.proofs.Common.{sym, ◌∙◌}
 use Rattle.book.specs.Books.{rows, dues}
 use Rattle.book.proofs.Tied.{gone_tied, kept_tied, absent_without}
 use Rattle.book.proofs.book.Book.withdraw.Goals as goal

@@ -1,9 +1,8 @@
-use Rattle.std.proofs.Common.{◌≡◌, Bool, true, false, length, get_or, Some, None, sym, ap, ◌∙◌, subst, arith}
+use Rattle.std.proofs.Common.{◌≡◌, length, get_or, None, sym, ap, ◌∙◌, arith}
 use Rattle.std.proofs.lemmas.List.{length-take-le}
-use Rattle.book.specs.Lists.{first, or_else}
+use Rattle.book.specs.Lists.{or_else}
 use Rattle.book.specs.Listings.{ranked}
 use Rattle.book.specs.Rows.{not_before, stands_at}
-use Rattle.book.specs.declared.row.Row.{Row}
 use Rattle.book.proofs.Sound.{parted_from, best_at, best_nowhere}
 use Rattle.book.proofs.Steps.{read_at, blank}
 use Rattle.book.proofs.resting.Rows.best.Goals as goal

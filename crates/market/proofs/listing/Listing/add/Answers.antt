@@ -1,4 +1,4 @@
-use Rattle.std.proofs.Common.{◌≡◌, true, false, ltb, leb, List, length, take, sym, subst, arith, length-set, length-take, rules}
+use Rattle.std.proofs.Common.{◌≡◌, true, false, leb, List, length, take, sym, subst, arith, length-set, length-take, rules}
 use Rattle.std.proofs.lemmas.Bool.{le-leb, lt-leb}
 use Rattle.market.specs.declared.series.Series.{Series}
 use Rattle.market.specs.Series.{all_known}

@@ -1,4 +1,4 @@
-use Rattle.std.proofs.Common.{◌≡◌, sym, subst}
+use Rattle.std.proofs.Common.{sym, subst}
 use Rattle.market.specs.declared.call.Call.{Call}
 use Rattle.market.specs.Markets.{Does}
 use Rattle.market.proofs.market.Market.call.Goals as goal

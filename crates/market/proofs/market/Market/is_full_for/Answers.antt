@@ -1,4 +1,4 @@
-use Rattle.std.proofs.Common.{◌≡◌, ℕ, leb, Some, None, sym, refl, ap, ◌∙◌}
+use Rattle.std.proofs.Common.{leb, Some, None, sym, ap, ◌∙◌}
 use Rattle.trading.specs.Floors.{rows_on}
 use Rattle.market.specs.Tests.{on_side}
 use Rattle.market.proofs.Quotas.{full_is}

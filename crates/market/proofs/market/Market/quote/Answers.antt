@@ -1,5 +1,4 @@
-use Rattle.std.proofs.Common.{◌≡◌, ℕ, Err, sym, subst}
-use Rattle.values.specs.declared.refusal.Cause.{Cause}
+use Rattle.std.proofs.Common.{◌≡◌, Err, subst}
 use Rattle.screens.specs.declared.view.View.{View}
 use Rattle.screens.specs.declared.view.Ruling.{Ruling}
 use Rattle.screens.specs.declared.view.Ruling.TheVariants as ruling

@@ -1,4 +1,4 @@
-use Rattle.std.proofs.Common.{◌≡◌, arith}
+use Rattle.std.proofs.Common.{arith}
 use Rattle.values.specs.declared.order.Kind.TheVariants.{Call}
 use Rattle.market.specs.Listings.{listed}
 use Rattle.market.proofs.Listed.{known_at}

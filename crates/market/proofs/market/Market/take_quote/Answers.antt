@@ -1,4 +1,4 @@
-use Rattle.std.proofs.Common.{◌≡◌, ℕ, ◌<◌, true, not, List, length, Some, sym, refl, subst, arith}
+use Rattle.std.proofs.Common.{◌≡◌, ◌<◌, true, not, List, length, Some, sym, refl, subst, arith}
 use Rattle.book.specs.declared.row.Row.{Row}
 use Rattle.book.specs.Lists.{every}
 use Rattle.trading.specs.declared.ticket.Ticket.{Ticket}

@@ -1,4 +1,4 @@
-use Rattle.std.proofs.Common.{◌≡◌, ◌+◌, refl, arith, length-set}
+use Rattle.std.proofs.Common.{◌+◌, refl, arith, length-set}
 use Rattle.std.proofs.lemmas.List.{take_more_set, drop-set-lt}
 use Rattle.rolls.proofs.slots.Slots.push.Goals as goal
 

@@ -1,4 +1,4 @@
-use Rattle.std.proofs.Common.{◌≡◌, ◌+◌, ◌^◌, ◌<◌, ◌≤◌, ◌++◌, length, decimal}
+use Rattle.std.proofs.Common.{◌≡◌, ◌+◌, ◌^◌, ◌<◌, ◌++◌, length, decimal}
 use Rattle.wire_write.specs.Tails.{made}
 use Rattle.wire_write.proofs.tail.Tail.put_digits.Given as goal
 
