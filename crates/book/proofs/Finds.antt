@@ -1,12 +1,8 @@
 -- The steps of a loop that looks for the first place, one by one or by halving.
-use Rattle.std.proofs.Common.{◌≡◌, ℕ, zero, suc, ◌+◌, ◌<◌, ◌≤◌, Bool, true, false, cond, not, ◌||◌, List, [], ◌∷◌, length, get_or, take, drop, sym, refl, ap, ◌∙◌, arith}
-use Rattle.std.proofs.lemmas.List.{at_drop_more, at_drop_all, get_or-take}
+use Rattle.std.proofs.Common.{◌≡◌, ℕ, zero, suc, ◌+◌, ◌<◌, ◌≤◌, Bool, true, false, cond, not, ◌||◌, List, [], ◌∷◌, length, get_or, drop, sym, refl, ap, ◌∙◌, arith}
+use Rattle.std.proofs.lemmas.List.{at_drop_more, at_drop_all}
 use Rattle.std.proofs.lemmas.Bool.{cond-true, cond-false, and_parts, both_ways}
 use Rattle.book.specs.Lists.{first, every, parted}
-
--- what the test said of the element that was read holds of it in the list
-pub told : {X : Type 0} (p : X → Bool) (xs : List X) (n k : ℕ) (x : X) (b : Bool) → k < n → x ≡ get_or xs k x → b ≡ p x → p (get_or (take n xs) k x) ≡ b
-told p xs n k x b l read e = ap p (get_or-take n xs k x l ∙ sym read) ∙ sym e
 
 module _ {X : Type 0} (p : X → Bool) (xs : List X) (k : ℕ) (d : X) where
   pub first_skips : k < length xs → p (get_or xs k d) ≡ false → first p xs ≡ first p (drop k xs) + k → first p xs ≡ first p (drop (k + 1) xs) + (k + 1)

@@ -3,7 +3,6 @@ use Rattle.std.proofs.Common.{◌≡◌, ℕ, zero, suc, ◌<◌, ◌≤◌, Boo
 use Rattle.std.specs.List.{insert, remove}
 use Rattle.std.proofs.lemmas.Bool.{and_parts, and_from, cond-true, cond-false, both_ways}
 use Rattle.std.proofs.lemmas.Bool.Decides.{nat_tests}
-use Rattle.book.proofs.Finds.{every_get_d}
 use Rattle.book.specs.Lists.{first, found, or_else, placed, lacking, every, pairwise, head}
 
 -- cases on a test
@@ -66,20 +65,6 @@ module _ {X : Type 0} (p : X → Bool) where
       λ b. elim b as (λ b. p x ≡ b → cond b 0 (suc (first p xs)) < suc (length xs) → remove (x ∷ xs) (cond b 0 (suc (first p xs))) ≡ cond b (lacking p xs) (x ∷ lacking p xs))
       [ true ↦ λ is l. sym (lacking_none xs (rest is)) | false ↦ λ is l. ap (λ zs. x ∷ zs) (lacking_is xs a.1 (omega arith)) ] in
       step (p x) refl
-
-  -- where at most one element passes, one that does is the first
-  pub single_first : (xs : List X) (at : ℕ) (d : X) → single p xs ≡ true → at < length xs → p (get_or xs at d) ≡ true → at ≡ first p xs
-  single_first [] at d s l h = absurd (omega arith)
-  single_first (x ∷ xs) zero d s l h = sym (cond-true (p x) 0 (suc (first p xs)) h)
-  single_first (x ∷ xs) (suc at) d s l h =
-      let a = and_parts (every (λ b. not (p x && p b)) xs) _ s in
-      decide (p x)
-      (λ e. absurd (both_ways (p (get_or xs at d)) (failed (p (get_or xs at d)) (every_get_d (fails p) xs at d (omega arith) (single_rest x xs s e))) h))
-      (λ e. ap suc (single_first xs at d a.1 (omega arith) h) ∙ sym (cond-false (p x) 0 (suc (first p xs)) e))
-    where
-      failed : (b : Bool) → not b ≡ true → b ≡ false
-      failed true e = sym e
-      failed false e = refl
 
   pub found_is : (xs : List X) (d : X) → first p xs < length xs → found p xs ≡ Some (get_or xs (first p xs) d)
   unfolding found

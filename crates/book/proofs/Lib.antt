@@ -1,13 +1,9 @@
 pub mod Shifts
 pub mod Finds
 pub mod Keeps
-pub mod Maps
-pub mod Slots
-pub mod Sequences
 pub mod Orders
 pub mod Settles
 pub mod Sound
-pub mod Spans
 pub mod Steps
 pub mod Turns
 pub mod Ties

@@ -1,9 +1,9 @@
 -- What the due list keeps, through each change of it.
-use Rattle.std.proofs.Common.{◌≡◌, ℕ, ◌≤◌, true, not, ◌||◌, List, length, take, sym, ap, ◌∙◌, subst}
-use Rattle.book.specs.Lists.{lacking, every, parted}
+use Rattle.std.proofs.Common.{◌≡◌, ℕ, true, List}
+use Rattle.book.specs.Lists.{lacking, every}
 use Rattle.book.specs.Dues.{sooner, distinct, owed, InTurn, entered}
 use Rattle.book.specs.declared.row.Due.{Due}
-use Rattle.book.proofs.Keeps.{decide, single, pairwise_weaker, pairwise_lacking, pairwise_joined, pairwise_placed}
+use Rattle.book.proofs.Keeps.{single, pairwise_weaker, pairwise_lacking, pairwise_joined, pairwise_placed}
 use Rattle.book.proofs.Orders.{sooner_trans, sooner_total, distinct_back, distinct_single}
 
 pub turns_entered : (due : Due) (ds : List Due) → every (distinct due) ds ≡ true → InTurn ds → InTurn (entered due ds)
@@ -17,12 +17,3 @@ turns_lacking n ds s = (pairwise_lacking (owed n) sooner ds s.0, pairwise_lackin
 
 pub single_owed : (n : ℕ) (ds : List Due) → InTurn ds → single (owed n) ds ≡ true
 single_owed n ds s = pairwise_weaker (λ a b h. distinct_single n a b h) ds s.1
-
--- all entries after one that d comes before are such
-pub parted_turn : (d : Due) (ds : List Due) → InTurn ds → parted (sooner d) ds ≡ true
-parted_turn d ds s =
-    pairwise_weaker (λ a b h. decide (sooner d a) (λ e. ap (λ t. not t || sooner d b) e ∙ sooner_trans d a b e h) (λ e. ap (λ t. not t || sooner d b) e)) ds s.0
-
--- the ghost fields of the due list, as a check asks for them
-pub as_fields : (slots : List Due) (count : ℕ) (ds : List Due) → count ≤ 256 → length slots ≡ 256 → take count slots ≡ ds → InTurn ds → (count ≤ 256) × ((length slots ≡ 256) × (InTurn (take count slots) × Unit {0}))
-as_fields slots count ds few whole is s = (few, (whole, (subst InTurn (sym is) s, tt)))

@@ -1,8 +1,5 @@
 pub mod Lists
-pub mod Slots
-pub mod Sequences
 pub mod Rows
-pub mod Scopes
 pub mod Dues
 pub mod Trades
 pub mod Taking

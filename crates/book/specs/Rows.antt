@@ -1,5 +1,5 @@
 -- Rows in rank, what a list of resting rows always keeps, and what is done to it.
-use Rattle.std.specs.Prelude.{◌≡◌, ℕ, zero, suc, ◌+◌, ◌-◌, Bool, true, false, cond, not, ◌&&◌, ◌||◌, List, [], ◌∷◌, Some, None, Option, ◌==◌, nat_le, nat_lt}
+use Rattle.std.specs.Prelude.{◌≡◌, ℕ, zero, suc, ◌-◌, Bool, true, false, cond, not, ◌&&◌, ◌||◌, List, [], ◌∷◌, Some, None, Option, ◌==◌, nat_le, nat_lt}
 use Rattle.values.specs.declared.side.Side.{Side}
 use Rattle.values.specs.declared.side.Side.TheVariants.{Buy, Sell}
 use Rattle.values.specs.Sides.{opposite, no_more_aggressive}
@@ -39,11 +39,6 @@ stands_at s side r = r.series == s && same_side r.side side
 -- r stands there or comes later
 abbrev pub not_before : ℕ → Side → Row → Bool
 not_before s side r = nat_lt s r.series || (s == r.series && not (bid_first r.side side))
-
--- r comes after all that stand there: it stands on the next side or comes later
-abbrev pub past : ℕ → Side → Row → Bool
-past s Buy r = not_before s Sell r
-past s Sell r = not_before (s + 1) Buy r
 
 -- r stands on the contra side of the series s, at a price within the reach p of the side
 abbrev pub meets : ℕ → Side → ℕ → Row → Bool

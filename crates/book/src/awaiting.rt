@@ -2,8 +2,8 @@
 ghost use Rattle.std.specs.Prelude.{◌≡◌, ◌≤◌, length, take};
 ghost use Rattle.book.specs.Dues.{InTurn};
 
+use crate::resting::PLACES;
 use crate::row::Due;
-use crate::sequence::PLACES;
 
 pub mod keeping;
 

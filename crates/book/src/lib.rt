@@ -4,9 +4,6 @@
 
 mod awaiting;
 pub mod book;
-mod hints;
 pub mod places;
 mod resting;
 pub mod row;
-pub mod scope;
-mod sequence;

@@ -69,47 +69,14 @@ pub(crate) fn first_place<T: Copy, W: Wanted<T>>(slots: &[T], count: usize, want
     count
 }
 
-// `guess`, where no element before it is wanted, or else the first place.
-fn lower_bound<T: Copy, W: Wanted<T>>(slots: &[T], count: usize, wanted: &W, guess: usize) -> usize
-    requires room { count ≤ length slots.now }
-    requires parted { parted (W.wants wanted.now) (take count slots.now) ≡ true }
-    ensures { result ≤ first (W.wants wanted.now) (take count slots.now) }
-{
-    if 0 < guess && guess <= count && !wanted.wants(slots[guess - 1]) {
-        guess
-    } else {
-        0
-    }
-}
-
-// `guess`, where the element there is wanted, or else the end.
-fn upper_bound<T: Copy, W: Wanted<T>>(slots: &[T], count: usize, wanted: &W, guess: usize) -> usize
-    requires room { count ≤ length slots.now }
-    ensures bound { first (W.wants wanted.now) (take count slots.now) ≤ result }
-    ensures within { result ≤ count }
-{
-    if guess < count && wanted.wants(slots[guess]) {
-        guess
-    } else {
-        count
-    }
-}
-
-// The same, by halving, where all elements after a wanted one are wanted. `from` and `to` are guesses at places that it lies between:
-// each is asked about first, and one that does not hold costs time only.
-pub(crate) fn parting_place<T: Copy, W: Wanted<T>>(
-    slots: &[T],
-    count: usize,
-    wanted: &W,
-    from: usize,
-    to: usize,
-) -> usize
+// The same, by halving, where all elements after a wanted one are wanted.
+pub(crate) fn parting_place<T: Copy, W: Wanted<T>>(slots: &[T], count: usize, wanted: &W) -> usize
     requires room { count ≤ length slots.now }
     requires parted { parted (W.wants wanted.now) (take count slots.now) ≡ true }
     ensures { result ≡ first (W.wants wanted.now) (take count slots.now) }
 {
-    let mut low = lower_bound(slots, count, wanted, from);
-    let mut high = upper_bound(slots, count, wanted, to);
+    let mut low = 0;
+    let mut high = count;
     while low < high {
         let middle = midway(low, high);
         if wanted.wants(slots[middle]) {

@@ -1,18 +1,21 @@
 // The rows that rest, in their order.
-ghost use Rattle.std.specs.Prelude.{◌≡◌};
+ghost use Rattle.std.specs.Prelude.{◌≡◌, ◌≤◌, length, take};
 ghost use Rattle.book.specs.Rows.{Sound};
-ghost use Rattle.book.specs.Sequences.{in_order};
 
-use crate::hints::Hints;
-use crate::sequence::Sequence;
+use crate::row::Row;
 
 pub mod keeping;
 
-// The rows stand by series, bids before offers, the better row first. Numbers are unique, no bid is at or above an offer of its series,
-// a maker has at most one quote on a side of a series, and no row is without size.
+// How many rows a book holds at most.
+pub const PLACES: usize = 256;
+
+// The first `count` slots are the rows: by series, bids before offers, the better row first. Numbers are unique, no bid is at or above
+// an offer of its series, a maker has at most one quote on a side of a series, and no row is without size.
 #[derive(Drop)]
 pub struct Rows {
-    sequence: Sequence,
-    hints: Hints,
-    ghost sound: { Sound (in_order sequence) },
+    slots: [Row; PLACES],
+    count: usize,
+    ghost few: { count ≤ 256 },
+    ghost whole: { length slots ≡ 256 },
+    ghost sound: { Sound (take count slots) },
 }

@@ -11,7 +11,6 @@ ghost use Rattle.book_examples.specs.Callers.{moved_if, placed_if};
 use book::book::Book;
 use book::places::Wanted;
 use book::row::{Row, Standing, Taker, Trade};
-use book::scope::Scope;
 use rolls::roll::Roll;
 use values::side::{Price, Side};
 
@@ -197,19 +196,9 @@ mod tests {
             )
         );
         assert!(rt; place(&mut book, plain(1, Side::Sell, 120, 5)));
-        assert_eq!(rt;
-            book.lowest(Scope::Everywhere, 0, &QuotesOf(7))
-                .ok_or("none")?
-                .number,
-            3
-        );
-        assert_eq!(rt;
-            book.lowest(Scope::Everywhere, 4, &QuotesOf(7))
-                .ok_or("none")?
-                .number,
-            4
-        );
-        assert!(rt; book.lowest(Scope::Everywhere, 5, &QuotesOf(7)).is_none());
+        assert_eq!(rt; book.lowest(0, &QuotesOf(7)).ok_or("none")?.number, 3);
+        assert_eq!(rt; book.lowest(4, &QuotesOf(7)).ok_or("none")?.number, 4);
+        assert!(rt; book.lowest(5, &QuotesOf(7)).is_none());
         Ok(())
     }
 

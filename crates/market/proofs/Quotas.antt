@@ -1,5 +1,5 @@
 -- How many rows a call withdraws: one by number, one on a side, at most 128 of one maker.
-use Rattle.std.proofs.Common.{◌≡◌, ℕ, zero, suc, ◌+◌, ◌*◌, ◌<◌, ◌≤◌, Bool, true, false, cond, not, ◌&&◌, eqb, ltb, leb, ◌⊎◌, List, [], ◌∷◌, length, Some, None, Option, sym, refl, ap, ◌∙◌, subst, inl, inr, ⊎_elim, arith}
+use Rattle.std.proofs.Common.{◌≡◌, ℕ, zero, suc, ◌+◌, ◌*◌, ◌≤◌, Bool, true, false, cond, not, ◌&&◌, eqb, ltb, leb, ◌⊎◌, List, [], ◌∷◌, length, Some, None, Option, sym, refl, ap, ◌∙◌, subst, inl, inr, ⊎_elim, arith}
 use Rattle.std.proofs.lemmas.Bool.{le-leb, lt-leb, ltb-true, lt-ltb, eqb-true, eqb-false, eq-eqb, and_parts, and_from, not-true, cases_eq}
 use Rattle.values.specs.declared.side.Side.{Side}
 use Rattle.values.specs.declared.side.Side.TheVariants.{Buy, Sell}
@@ -13,8 +13,6 @@ use Rattle.trading.specs.Doing.{count}
 use Rattle.trading.specs.Rests.{in_series}
 use Rattle.trading.proofs.Sides.{clash, decide, same_side_lem, same_self}
 use Rattle.trading.proofs.Each.{every_has, lowest_none, lowest_some}
-use Rattle.book.specs.Scopes.{Within}
-use Rattle.book.specs.declared.scope.Scope.TheVariants as scope
 use Rattle.market.specs.Tests.{is_mine, on_side}
 
 -- ---- counting rows
@@ -147,10 +145,3 @@ full_is p xs few (Some r) e =
     let some = count_some p xs r low.there (and_parts (leb 0 r.number) (p r) low.passes).1 in
     let both = count_both p xs in
     lt-leb 256 (count (λ r. not (p r)) xs) (omega arith)
-
-pub not_full : (p : Row → Bool) (xs : List Row) → length xs < 256 → leb 256 (count (λ r. not (p r)) xs) ≡ false
-not_full p xs l = let both = count_both p xs in lt-leb 256 (count (λ r. not (p r)) xs) (omega arith)
-
--- the maker k's quote on a side stands there
-pub side_within : (k s : ℕ) (side : Side) → Within (scope.OnSide s side) (on_side k s side)
-side_within k s side r h = (and_parts (is_mine k r.standing) (stands_at s side r) h).1

@@ -30,7 +30,6 @@ use Rattle.market.specs.Listings.{listed}
 use Rattle.values.specs.declared.refusal.Refusal.{Refusal}
 use Rattle.screens.specs.declared.view.Verdict.{Verdict}
 use Rattle.screens.specs.declared.view.Verdict.TheVariants.{Pass}
-use Rattle.book.proofs.Sequences.{few_rows as few}
 use Rattle.market.specs.States.{Answer}
 use Rattle.market.specs.Calls.{unless, screening, priced, taken_order, order_by, step_order}
 use Rattle.market.specs.Markets.{making, state, room_of, ComesWith}
@@ -43,7 +42,7 @@ few_series l = omega (arith, length-take-le l.count l.series (omega (arith, l.fe
 
 -- at most 256 rows rest
 pub few_rows : (f : Floor) → length (rows_on f) ≤ 256
-few_rows f = few f.book.resting.sequence
+few_rows f = omega (arith, length-take-le f.book.resting.count f.book.resting.slots (omega (arith, f.book.resting.few, f.book.resting.whole)), f.book.resting.few)
 
 module _ {O Q S : Type 0} (o : screen.Ghosts O) (q : screen.Ghosts Q) (k : Q → View → Side → ℕ → Extent) (s : source.Ghosts S) (m : Market O Q S) where
   -- what the tests of an order leave

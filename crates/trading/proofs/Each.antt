@@ -103,27 +103,27 @@ lowest_some p (x ∷ xs) r e = lower_some p xs x r (p x) refl (lowest p xs) (λ 
 
 -- ---- numbers that are passed over
 
--- f does nothing to the desk d where no row that is wanted has the number
-abbrev pub Idle : (ℕ → Desk → Desk) → (Row → Bool) → Desk → Type 0
-Idle f w d = (n : ℕ) → ((r : Row) → row_of n d.rows ≡ Some r → w r ≡ false) → f n d ≡ d
+-- f does nothing where no row that is wanted has the number
+abbrev pub Idle : (ℕ → Desk → Desk) → (Row → Bool) → Type 0
+Idle f w = (n : ℕ) (d : Desk) → ((r : Row) → row_of n d.rows ≡ Some r → w r ≡ false) → f n d ≡ d
 
-module _ (f : ℕ → Desk → Desk) (w : Row → Bool) (d : Desk) (p : ℕ) (idle : Idle f w (each_number p f d)) where
-  pub each_skip : (q : ℕ) → p ≤ q → ((r : Row) → Has r (each_number p f d).rows → p < r.number → r.number ≤ q → w r ≡ false) → each_number q f d ≡ each_number p f d
+module _ (f : ℕ → Desk → Desk) (w : Row → Bool) (idle : Idle f w) (d : Desk) where
+  pub each_skip : (p q : ℕ) → p ≤ q → ((r : Row) → Has r (each_number p f d).rows → p < r.number → r.number ≤ q → w r ≡ false) → each_number q f d ≡ each_number p f d
   unfolding each_number
-  each_skip zero le none = let z : ◌≡◌ {A = ℕ} 0 p = omega arith in ap (λ (n : ℕ). each_number n f d) z
-  each_skip (suc q) le none =
+  each_skip p zero le none = let z : ◌≡◌ {A = ℕ} 0 p = omega arith in ap (λ (n : ℕ). each_number n f d) z
+  each_skip p (suc q) le none =
       ⊎_elim
       (λ e. ap (λ (n : ℕ). each_number n f d) (sym e))
       (λ e.
-      let same = each_skip q (omega arith) (λ r h a b. none r h a (omega arith)) in
+      let same = each_skip p q (omega arith) (λ r h a b. none r h a (omega arith)) in
       ap (f (suc q)) same
-      ∙ idle (suc q) (λ r at. let n = (row_of_some (suc q) (each_number p f d).rows r at).1 in none r (row_of_has (suc q) (each_number p f d).rows r at) (omega arith) (omega arith)))
+      ∙ idle (suc q) (each_number p f d) (λ r at. let n = (row_of_some (suc q) (each_number p f d).rows r at).1 in none r (row_of_has (suc q) (each_number p f d).rows r at) (omega arith) (omega arith)))
       (cases_eq p (suc q))
 
   -- up to the lowest number that is wanted nothing happens
-  pub each_next : (r : Row) → lowest (wanted_from w (p + 1)) (each_number p f d).rows ≡ Some r → each_number r.number f d ≡ f r.number (each_number p f d)
+  pub each_next : (p : ℕ) (r : Row) → lowest (wanted_from w (p + 1)) (each_number p f d).rows ≡ Some r → each_number r.number f d ≡ f r.number (each_number p f d)
   unfolding each_number
-  each_next r e = at r.number refl
+  each_next p r e = at r.number refl
     where
       low : Lowest (wanted_from w (p + 1)) r (each_number p f d).rows
       low = lowest_some (wanted_from w (p + 1)) (each_number p f d).rows r e
@@ -135,14 +135,14 @@ module _ (f : ℕ → Desk → Desk) (w : Row → Bool) (d : Desk) (p : ℕ) (id
       at zero s = absurd (let z = from in omega arith)
       at (suc n) s =
           ap (f (suc n))
-          (each_skip n (let z = from in omega arith) (λ q h a b.
+          (each_skip p n (let z = from in omega arith) (λ q h a b.
           decide (w q)
           (λ y. absurd (let z = low.least q h (and_from (leb (p + 1) q.number) (w q) (le-leb (p + 1) q.number (omega arith)) y) in omega arith))
           (λ y. y)))
 
   -- where none is wanted any more, all numbers are done
-  pub each_end : (q : ℕ) → p ≤ q → lowest (wanted_from w (p + 1)) (each_number p f d).rows ≡ None → each_number q f d ≡ each_number p f d
-  each_end q le e = each_skip q le (λ r h a b.
+  pub each_end : (p q : ℕ) → p ≤ q → lowest (wanted_from w (p + 1)) (each_number p f d).rows ≡ None → each_number q f d ≡ each_number p f d
+  each_end p q le e = each_skip p q le (λ r h a b.
       decide (w r)
       (λ y. absurd (clash _ (and_from (leb (p + 1) r.number) (w r) (le-leb (p + 1) r.number (omega arith)) y) (lowest_none (wanted_from w (p + 1)) (each_number p f d).rows e r h)))
       (λ y. y))

@@ -1,6 +1,6 @@
 -- Withdrawing in the code is withdrawing by the definitions.
 use Rattle.std.proofs.Common.{◌≡◌, ℕ, zero, suc, ◌+◌, ◌-◌, ◌<◌, ◌≤◌, Bool, true, false, cond, leb, List, [], ◌∷◌, Some, None, Option, sym, refl, ap, ◌∙◌, subst, inl, inr, arith}
-use Rattle.std.proofs.lemmas.Bool.{leb-true, and_parts, and_right, eq-eqb, cond_both}
+use Rattle.std.proofs.lemmas.Bool.{leb-true, and_parts, eq-eqb, cond_both}
 use Rattle.rolls.specs.declared.roll.Roll.{Roll}
 use Rattle.rolls.specs.Rolls.{Gains, room}
 use Rattle.rolls.proofs.Gaining.{gains_nothing, gains_then, room_after}
@@ -8,8 +8,7 @@ use Rattle.book.specs.declared.row.Row.{Row}
 use Rattle.book.specs.declared.row.Withdrawal.{Withdrawal}
 use Rattle.book.specs.Lists.{lacking}
 use Rattle.book.specs.Taking.{Has}
-use Rattle.book.specs.Rows.{Sound, numbered, without, row_of, lower, lowest, wanted_from}
-use Rattle.book.proofs.Keeps.{decide}
+use Rattle.book.specs.Rows.{Sound, numbered, without, row_of, lowest, wanted_from}
 use Rattle.trading.specs.Journals.{withdrawals_of}
 use Rattle.trading.specs.Desks.{Desk, highest, each_number, withdrawn, pull_found, pull_one, pull}
 use Rattle.trading.specs.Doing.{desk, Withdrawing, count}
@@ -85,7 +84,7 @@ module _ (p : Row → Bool) where
     unfolding pull done
     pulling_ends e =
         let w = u.within in
-        let same : each_number (highest rs₀) (pull_one p) (desk rs₀) ≡ done = each_end (pull_one p) p (desk rs₀) (from - 1) (λ n h. pull_idle n done h) (highest rs₀) (omega arith) (at_done None e) in
+        let same : each_number (highest rs₀) (pull_one p) (desk rs₀) ≡ done = each_end (pull_one p) p pull_idle (desk rs₀) (from - 1) (highest rs₀) (omega arith) (at_done None e) in
         record {
           rests = u.rests ∙ ap (λ (d : Desk). d.rows) (sym same);
           gains = subst (λ (d : Desk). Gains roll₀ roll (withdrawals_of d.journal)) (sym same) u.gains;
@@ -109,7 +108,7 @@ module _ (p : Row → Bool) where
         let number = pulling_number r e in
         let has : Has r done.rows = subst (Has r) u.rests low.there in
         let distinct : Distinct done.rows = subst Distinct u.rests (sound_distinct rs sound) in
-        let step : each_number r.number (pull_one p) (desk rs₀) ≡ record { rows = without r.number done.rows; journal = withdrawn r ∷ done.journal } = each_next (pull_one p) p (desk rs₀) (from - 1) (λ n h. pull_idle n done h) r (at_done (Some r) e) ∙ one_pulled r done distinct has w.1 in
+        let step : each_number r.number (pull_one p) (desk rs₀) ≡ record { rows = without r.number done.rows; journal = withdrawn r ∷ done.journal } = each_next (pull_one p) p pull_idle (desk rs₀) (from - 1) r (at_done (Some r) e) ∙ one_pulled r done distinct has w.1 in
         let back : (r.number + 1) - 1 ≡ r.number = omega arith in
         let mine : each_number ((r.number + 1) - 1) (pull_one p) (desk rs₀) ≡ record { rows = without r.number done.rows; journal = withdrawn r ∷ done.journal } = ap (λ (n : ℕ). each_number n (pull_one p) (desk rs₀)) back ∙ step in
         let g = room_after roll roll' _ gained in
@@ -123,30 +122,3 @@ module _ (p : Row → Bool) where
           gains = subst (λ (d : Desk). Gains roll₀ roll' (withdrawals_of d.journal)) (sym mine) (gains_then roll₀ roll roll' _ _ u.gains gained);
           places = omega arith;
         }
-
--- ---- where at most one row is wanted
-
-none_counted : (p : Row → Bool) (from : ℕ) (xs : List Row) → count p xs ≡ 0 → lowest (wanted_from p from) xs ≡ None
-unfolding count lowest
-none_counted p from [] z = refl
-none_counted p from (x ∷ xs) z =
-    decide (p x)
-    (λ e. let one : cond {A = ℕ} (p x) 1 0 ≡ 1 = rw e in absurd (omega arith))
-    (λ e.
-    let none : cond {A = ℕ} (p x) 1 0 ≡ 0 = rw e in
-    ap (λ (t : Bool). lower t x (lowest (wanted_from p from) xs)) (and_right (leb from x.number) (p x) e) ∙ none_counted p from xs (omega arith))
-
-module _ (p : Row → Bool) (rs : List Row) (roll : Roll Withdrawal) (sound : Sound rs) (one : count p rs ≤ 1) (place : 1 ≤ room roll) where
-  begins : Pulling p rs roll 1 rs roll
-  begins = pulling_starts p rs roll (omega arith)
-
-  pub none_pulled : lowest (wanted_from p 1) rs ≡ None → Withdrawing rs roll roll (pull p (desk rs))
-  none_pulled e = pulling_ends p begins sound e
-
-  pub one_is_pulled : (r : Row) (rs' : List Row) (roll' : Roll Withdrawal) → lowest (wanted_from p 1) rs ≡ Some r → rs' ≡ without r.number rs → Gains roll roll' (record { number = r.number; left = r.size } ∷ []) → Sound rs' → Withdrawing rs' roll roll' (pull p (desk rs))
-  one_is_pulled r rs' roll' e did gained sound' =
-      let low = lowest_some (wanted_from p 1) rs r e in
-      let w = and_parts (leb 1 r.number) (p r) low.passes in
-      let less = count_less p r rs low.there w.1 in
-      let same : count p rs' ≡ count p (without r.number rs) = ap (count p) did in
-      pulling_ends p (pulling_next p begins sound r rs' roll' e did gained) sound' (none_counted p (r.number + 1) rs' (omega arith))

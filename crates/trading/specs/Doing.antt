@@ -1,6 +1,6 @@
 -- What an operation on a book does, by what it does to the desk: the rows afterwards are the desk's, and a roll gains what the journal
 -- notes.
-use Rattle.std.specs.Prelude.{◌≡◌, ℕ, ◌+◌, Bool, false, cond, ◌&&◌, List, [], ◌∷◌, is_some, Some, None, Option, ◌==◌}
+use Rattle.std.specs.Prelude.{◌≡◌, ℕ, ◌+◌, Bool, true, false, cond, ◌&&◌, List, [], ◌∷◌, Some, None, Option, ◌==◌}
 use Rattle.rolls.specs.declared.roll.Roll.{Roll}
 use Rattle.rolls.specs.Rolls.{Gains}
 use Rattle.book.specs.declared.row.Row.{Row}
@@ -14,9 +14,7 @@ use Rattle.collars.specs.Pricings.{reach_of, display_of}
 use Rattle.values.specs.Sides.{no_more_aggressive}
 use Rattle.trading.specs.declared.ticket.Ticket.{Ticket}
 use Rattle.trading.specs.Journals.{trades_of, withdrawals_of}
-use Rattle.book.specs.Lists.{found}
-use Rattle.book.specs.Taking.{in_reach}
-use Rattle.trading.specs.Desks.{Desk, taker_of}
+use Rattle.trading.specs.Desks.{Desk}
 
 -- the rows as a call begins, nothing noted yet
 abbrev pub desk : List Row → Desk
@@ -32,15 +30,14 @@ pub record Withdrawing (after : List Row) (roll₀ roll : Roll Withdrawal) (d : 
   pub rests : after ≡ d.rows
   pub gains : Gains roll₀ roll (withdrawals_of d.journal)
 
--- a row stands within the reach of r, if r is held
-abbrev pub reaches_by : Standing → Row → List Row → Bool
-reaches_by Plain r rs = false
-reaches_by (Held c m) r rs = is_some (found (in_reach (taker_of r c)) rs)
-reaches_by (Quote k) r rs = false
+abbrev pub is_held : Standing → Bool
+is_held Plain = false
+is_held (Held c m) = true
+is_held (Quote k) = false
 
--- r is held in the series s, and one of the rows is within its reach
-abbrev pub reaches : ℕ → List Row → Row → Bool
-reaches s rs r = r.series == s && reaches_by r.standing r rs
+-- r is held in the series s
+abbrev pub held_in : ℕ → Row → Bool
+held_in s r = r.series == s && is_held r.standing
 
 -- how many rows pass
 unfoldable pub count : (Row → Bool) → List Row → ℕ

@@ -2,14 +2,12 @@
 ghost use Rattle.std.specs.Prelude.{◌≡◌, ◌<◌, ◌≤◌};
 ghost use Rattle.rolls.specs.Rolls.{room};
 ghost use Rattle.book.specs.Books.{rows};
-ghost use Rattle.book.specs.Scopes.{Within};
 ghost use Rattle.trading.specs.Desks.{highest, pull};
 ghost use Rattle.trading.specs.Doing.{desk, Withdrawing, count};
 
 use book::book::Book;
 use book::places::Wanted;
 use book::row::{Row, Withdrawal};
-use book::scope::Scope;
 use rolls::roll::Roll;
 
 // Withdraws every row that is wanted, the lowest number first.
@@ -19,33 +17,12 @@ pub fn withdraw_all<W: Wanted<Row>>(book: &mut Book, wanted: &W, withdrawals: &m
     ensures { Withdrawing (rows book.new) withdrawals.old withdrawals.new (pull (W.wants wanted.now) (desk (rows book.old))) }
 {
     let mut from = 1;
-    while let Some(row) = book.lowest(Scope::Everywhere, from, wanted) {
+    while let Some(row) = book.lowest(from, wanted) {
         let _ = book.withdraw(row.number);
         withdrawals.push(Withdrawal {
             number: row.number,
             left: row.size,
         });
         from = row.number + 1;
-    }
-}
-
-// The same, where at most one row is wanted, and only in the scope.
-pub fn withdraw_one<W: Wanted<Row>>(
-    book: &mut Book,
-    scope: Scope,
-    wanted: &W,
-    withdrawals: &mut Roll<Withdrawal>,
-)
-    requires one { count (W.wants wanted.now) (rows book.old) ≤ 1 }
-    requires within { Within scope (W.wants wanted.now) }
-    requires room { 1 ≤ room withdrawals.old }
-    ensures { Withdrawing (rows book.new) withdrawals.old withdrawals.new (pull (W.wants wanted.now) (desk (rows book.old))) }
-{
-    if let Some(row) = book.lowest(scope, 1, wanted) {
-        let _ = book.withdraw(row.number);
-        withdrawals.push(Withdrawal {
-            number: row.number,
-            left: row.size,
-        });
     }
 }

@@ -1,13 +1,13 @@
 // What is asked of the due list, and done to it.
 ghost use Rattle.std.specs.Prelude.{◌≡◌, ◌<◌, ◌≤◌, true, [], length};
-ghost use Rattle.book.specs.Lists.{every, first, head, lacking};
+ghost use Rattle.book.specs.Lists.{every, head, lacking};
 ghost use Rattle.book.specs.Dues.{distinct, due_at, entered, listed, owed, sooner, unlisted};
 ghost use Rattle.book.specs.Listings.{waiting};
 
 use super::Dues;
-use crate::places::{Wanted, close_place, first_place, open_place, parting_place};
+use crate::places::{Wanted, close_place, first_place, open_place};
+use crate::resting::PLACES;
 use crate::row::{Due, Standing};
-use crate::sequence::PLACES;
 
 // The entries that an entry comes before.
 #[derive(Clone, Copy)]
@@ -65,33 +65,16 @@ impl Dues {
         requires unused { every (distinct due) (waiting self.old) ≡ true }
         ensures { waiting self.new ≡ entered due (waiting self.old) }
     {
-        let at = parting_place(&self.slots, self.count, &Later(due), self.count, self.count);
+        let at = first_place(&self.slots, self.count, &Later(due));
         open_place(&mut self.slots, self.count, at, due);
         self.count += 1;
     }
 
-    // A guess at the place of an entry: by its turn.
-    fn guess(&self, due: Due) -> usize {
-        parting_place(&self.slots, self.count, &Later(due), 0, 1).saturating_sub(1)
-    }
-
-    // The place of the entry of the order with a number, or the end. Its moment is a guess.
-    fn place(&self, due: Due) -> usize
-        ensures { result ≡ first (owed due.number) (waiting self.now) }
+    // Takes out the entry of the order with a number.
+    pub fn remove(&mut self, number: u32)
+        ensures { waiting self.new ≡ lacking (owed number) (waiting self.old) }
     {
-        let at = self.guess(due);
-        if at < self.count && self.slots[at].number == due.number {
-            at
-        } else {
-            first_place(&self.slots, self.count, &Owed(due.number))
-        }
-    }
-
-    // Takes out the entry of the order with a number. Its moment is a guess.
-    pub fn remove(&mut self, due: Due)
-        ensures { waiting self.new ≡ lacking (owed due.number) (waiting self.old) }
-    {
-        let at = self.place(due);
+        let at = first_place(&self.slots, self.count, &Owed(number));
         if at < self.count {
             close_place(&mut self.slots, self.count, at);
             self.count -= 1;
@@ -118,10 +101,7 @@ impl Dues {
         ensures { waiting self.new ≡ unlisted standing number (waiting self.old) }
     {
         match standing {
-            Standing::Held { collar: _, due } => self.remove(Due {
-                moment: due,
-                number,
-            }),
+            Standing::Held { collar: _, due: _ } => self.remove(number),
             Standing::Plain | Standing::Quote { maker: _ } => {}
         }
     }

@@ -4,15 +4,12 @@ ghost use Rattle.book.specs.Lists.{every, head};
 ghost use Rattle.book.specs.Rows.{agrees, sized, insert, without, row_of, best_of, settle, may_move, move_row, lowest, wanted_from};
 ghost use Rattle.book.specs.Dues.{earliest};
 ghost use Rattle.book.specs.Books.{rows, dues};
-ghost use Rattle.book.specs.Scopes.{Within};
 
 use crate::awaiting::Dues;
 use crate::book::Book;
 use crate::places::Wanted;
-use crate::resting::Rows;
+use crate::resting::{PLACES, Rows};
 use crate::row::{Due, Row};
-use crate::scope::Scope;
-use crate::sequence::PLACES;
 use values::side::{Price, Side};
 
 impl Book {
@@ -86,12 +83,12 @@ impl Book {
     pub fn settle(&mut self, number: u32, by: u32, due: u32)
         ensures { rows self.new ≡ settle due by number (rows self.old) }
     {
-        if by == 0 {
-            return;
-        }
         let Some(row) = self.resting.settle(number, by, due) else {
             return;
         };
+        if by == 0 {
+            return;
+        }
         self.awaiting.unlist(number, row.standing);
         if by < row.size {
             self.awaiting.list(number, row.standing.renew(due));
@@ -135,11 +132,10 @@ impl Book {
         self.awaiting.first()
     }
 
-    // Of the rows from a number on that are wanted, the one with the lowest number. The scope has all that are wanted.
-    pub fn lowest<W: Wanted<Row>>(&self, scope: Scope, from: u32, wanted: &W) -> Option<Row>
-        requires { Within scope (W.wants wanted.now) }
+    // Of the rows from a number on that are wanted, the one with the lowest number.
+    pub fn lowest<W: Wanted<Row>>(&self, from: u32, wanted: &W) -> Option<Row>
         ensures { result ≡ lowest (wanted_from (W.wants wanted.now) from) (rows self.now) }
     {
-        self.resting.lowest(scope, from, wanted)
+        self.resting.lowest(from, wanted)
     }
 }

@@ -1,20 +1,13 @@
 // What is asked of the resting rows, and done to them.
-ghost use Rattle.std.specs.Prelude.{◌≡◌, ◌<◌, ◌≤◌, true, not, ◌&&◌, ◌||◌, [], length};
-ghost use Rattle.book.specs.Lists.{every, first, found};
-ghost use Rattle.book.specs.Rows.{same_side, bid_first, precedes, better, numbered, stands_at, not_before, past, meets, crosses, same_maker, same_quote, agrees, agrees_instead, sized, insert, without, row_of, best_of, settle, lower, lowest, wanted_from};
+ghost use Rattle.std.specs.Prelude.{◌≡◌, ◌<◌, true, not, ◌&&◌, ◌||◌, [], length};
+ghost use Rattle.book.specs.Lists.{every, found};
+ghost use Rattle.book.specs.Rows.{same_side, bid_first, precedes, better, numbered, stands_at, not_before, meets, crosses, same_maker, same_quote, agrees, agrees_instead, sized, insert, without, row_of, best_of, settle, lower, lowest, wanted_from};
 ghost use Rattle.book.specs.Listings.{ranked};
-ghost use Rattle.book.specs.Scopes.{Spans, Within};
 
-use super::Rows;
-use crate::hints::Hints;
-use crate::places::Wanted;
+use super::{PLACES, Rows};
+use crate::places::{Wanted, close_place, first_place, open_place, parting_place};
 use crate::row::{Row, Standing};
-use crate::scope::Scope;
-use crate::sequence::Sequence;
 use values::side::{Price, Side};
-
-// Up to so many rows are looked through one by one.
-const FEW: usize = 24;
 
 // Whether the two sides are one.
 fn is_same_side(a: Side, b: Side) -> bool
@@ -114,7 +107,7 @@ impl Wanted<Row> for Numbered {
 // The rows on a side of a series, and all that come after them.
 #[derive(Clone, Copy)]
 struct NotBefore {
-    series: u16,
+    series: u8,
     side: Side,
 }
 
@@ -122,8 +115,8 @@ impl Wanted<Row> for NotBefore {
     ghost wants = { λ s r. not_before s.series s.side r };
 
     fn wants(&self, item: Row) -> bool {
-        let series = item.series as u16;
-        self.series < series || self.series == series && !is_bid_first(item.side, self.side)
+        self.series < item.series
+            || self.series == item.series && !is_bid_first(item.side, self.side)
     }
 }
 
@@ -172,61 +165,34 @@ impl Rows {
     pub fn new() -> Rows
         ensures { ranked result ≡ [] }
     {
+        let none = Row {
+            number: 0,
+            series: 0,
+            side: Side::Buy,
+            display: 0,
+            limit: 0,
+            size: 0,
+            standing: Standing::Plain,
+        };
         Rows {
-            sequence: Sequence::new(),
-            hints: Hints::new(),
+            slots: [none; PLACES],
+            count: 0,
         }
     }
 
     pub fn len(&self) -> usize
-        ensures count { result ≡ length (ranked self.now) }
-        ensures bound { result ≤ 256 }
+        ensures { result ≡ length (ranked self.now) }
     {
-        self.sequence.len()
-    }
-
-    // The place of the first row that comes after a row.
-    fn rank(&self, row: Row) -> usize
-        ensures { result ≡ first (precedes row) (ranked self.now) }
-    {
-        let series = row.series as u16;
-        let from = self.hints.start(series, row.side);
-        let to = self.hints.end(series, row.side);
-        self.sequence.parting(&Behind(row), from, to)
-    }
-
-    // A guess at the place of the row with a number: by its slot, and among many rows by its rank.
-    fn guess(&self, number: u32) -> usize {
-        let slot = self.hints.slot(number);
-        let row = self.sequence.held_in(slot);
-        let from = self.hints.start(row.series as u16, row.side);
-        let to = self.hints.end(row.series as u16, row.side);
-        if to > from.saturating_add(FEW) {
-            self.rank(row).saturating_sub(1)
-        } else {
-            self.sequence.seek(slot, from, to)
-        }
-    }
-
-    // The place of the row with a number, or the end.
-    fn place(&self, number: u32) -> usize
-        ensures { result ≡ first (numbered number) (ranked self.now) }
-    {
-        let at = self.guess(number);
-        if at < self.sequence.len() && self.sequence.get(at).number == number {
-            at
-        } else {
-            self.sequence.first(&Numbered(number))
-        }
+        self.count
     }
 
     // The row with a number.
     pub fn row(&self, number: u32) -> Option<Row>
         ensures { result ≡ row_of number (ranked self.now) }
     {
-        let at = self.place(number);
-        if at < self.sequence.len() {
-            Some(self.sequence.get(at))
+        let at = first_place(&self.slots, self.count, &Numbered(number));
+        if at < self.count {
+            Some(self.slots[at])
         } else {
             None
         }
@@ -236,14 +202,14 @@ impl Rows {
     pub fn admits(&self, row: Row) -> bool
         ensures { result ≡ every (agrees row) (ranked self.now) }
     {
-        self.sequence.first(&Against(row)) == self.sequence.len()
+        first_place(&self.slots, self.count, &Against(row)) == self.count
     }
 
     // Whether a row may rest together with each of the rows but the one that has its number.
     pub fn admits_instead(&self, row: Row) -> bool
         ensures { result ≡ every (agrees_instead row) (ranked self.now) }
     {
-        self.sequence.first(&Besides(row)) == self.sequence.len()
+        first_place(&self.slots, self.count, &Besides(row)) == self.count
     }
 
     // Puts a row at its rank.
@@ -253,9 +219,9 @@ impl Rows {
         requires some { sized row ≡ true }
         ensures { ranked self.new ≡ insert row (ranked self.old) }
     {
-        let at = self.rank(row);
-        let slot = self.sequence.open(at, row);
-        self.hints.enter(row, slot);
+        let at = parting_place(&self.slots, self.count, &Behind(row));
+        open_place(&mut self.slots, self.count, at, row);
+        self.count += 1;
     }
 
     // Takes out the row with a number.
@@ -263,11 +229,11 @@ impl Rows {
         ensures answer { result ≡ row_of number (ranked self.old) }
         ensures after { ranked self.new ≡ without number (ranked self.old) }
     {
-        let at = self.place(number);
-        if at < self.sequence.len() {
-            let row = self.sequence.get(at);
-            self.sequence.close(at);
-            self.hints.leave(row);
+        let at = first_place(&self.slots, self.count, &Numbered(number));
+        if at < self.count {
+            let row = self.slots[at];
+            close_place(&mut self.slots, self.count, at);
+            self.count -= 1;
             Some(row)
         } else {
             None
@@ -278,9 +244,9 @@ impl Rows {
     pub fn best(&self, series: u8, side: Side) -> Option<Row>
         ensures { result ≡ best_of series side (ranked self.now) }
     {
-        let at = self.start(series as u16, side);
-        if at < self.sequence.len() {
-            let row = self.sequence.get(at);
+        let at = parting_place(&self.slots, self.count, &NotBefore { series, side });
+        if at < self.count {
+            let row = self.slots[at];
             if is_at(row, series, side) {
                 Some(row)
             } else {
@@ -296,15 +262,15 @@ impl Rows {
         ensures answer { result ≡ row_of number (ranked self.old) }
         ensures after { ranked self.new ≡ settle due by number (ranked self.old) }
     {
-        let at = self.place(number);
-        if at < self.sequence.len() {
-            let row = self.sequence.get(at);
+        let at = first_place(&self.slots, self.count, &Numbered(number));
+        if at < self.count {
+            let row = self.slots[at];
             if by > 0 {
                 match row.after_trade(by, due) {
-                    Some(left) => self.sequence.put(at, left),
+                    Some(left) => self.slots[at] = left,
                     None => {
-                        self.sequence.close(at);
-                        self.hints.leave(row);
+                        close_place(&mut self.slots, self.count, at);
+                        self.count -= 1;
                     }
                 }
             }
@@ -314,62 +280,15 @@ impl Rows {
         }
     }
 
-    // Where the rows on a side of a series begin.
-    fn start(&self, series: u16, side: Side) -> usize
-        ensures { result ≡ first (not_before series side) (ranked self.now) }
-    {
-        let guess = self.hints.start(series, side);
-        self.sequence
-            .parting(&NotBefore { series, side }, guess, guess)
-    }
-
-    // Where they end: where the next side begins.
-    fn end(&self, series: u16, side: Side) -> usize
-        requires { series < 256 }
-        ensures { result ≡ first (past series side) (ranked self.now) }
-    {
-        match side {
-            Side::Buy => self.start(series, Side::Sell),
-            Side::Sell => self.start(series + 1, Side::Buy),
-        }
-    }
-
-    // Two places outside of which no row is in the scope.
-    fn span(&self, scope: Scope) -> (usize, usize)
-        ensures { Spans scope (ranked self.now) result.0 result.1 }
-    {
-        match scope {
-            Scope::Everywhere => (0, self.sequence.len()),
-            Scope::OfNumber(number) => {
-                let at = self.place(number);
-                if at < self.sequence.len() {
-                    (at, at + 1)
-                } else {
-                    (at, at)
-                }
-            }
-            Scope::InSeries(series) => {
-                let series = series as u16;
-                (self.start(series, Side::Buy), self.end(series, Side::Sell))
-            }
-            Scope::OnSide(series, side) => {
-                let series = series as u16;
-                (self.start(series, side), self.end(series, side))
-            }
-        }
-    }
-
-    // Of the rows from a number on that are wanted, the one with the lowest number. The scope has all that are wanted.
-    pub fn lowest<W: Wanted<Row>>(&self, scope: Scope, from: u32, wanted: &W) -> Option<Row>
-        requires { Within scope (W.wants wanted.now) }
+    // Of the rows from a number on that are wanted, the one with the lowest number.
+    pub fn lowest<W: Wanted<Row>>(&self, from: u32, wanted: &W) -> Option<Row>
         ensures { result ≡ lowest (wanted_from (W.wants wanted.now) from) (ranked self.now) }
     {
-        let (start, end) = self.span(scope);
         let mut best = None;
-        let mut k = end;
-        while k > start {
+        let mut k = self.count;
+        while k > 0 {
             k -= 1;
-            let row = self.sequence.get(k);
+            let row = self.slots[k];
             if from <= row.number && wanted.wants(row) {
                 best = lower_of(row, best);
             }

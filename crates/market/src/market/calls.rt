@@ -12,7 +12,6 @@ use crate::market::Market;
 use crate::tests::{bad_limit, bad_size, is_day, is_market, is_one_sided};
 use crate::wanted::Numbered;
 use book::row::{Trade, Withdrawal};
-use book::scope::Scope;
 use collars::pricing::{Pricing, price_order};
 use rolls::roll::Roll;
 use screens::screen::{QuoteScreen, Screen};
@@ -46,8 +45,7 @@ impl<O: Screen, Q: QuoteScreen, S: PriceSource> Market<O, Q, S> {
         if self.floor.row(number).is_none() {
             return Err(Refusal::Unknown);
         }
-        self.floor
-            .withdraw_one(Scope::OfNumber(number), &Numbered { number }, withdrawals);
+        self.floor.withdraw(&Numbered { number }, withdrawals);
         Ok(0)
     }
 

@@ -14,7 +14,6 @@ use crate::market::calls::is_tight;
 use crate::tests::{bad_price, bad_size};
 use crate::wanted::{InClass, OnSide};
 use book::row::{Trade, Withdrawal};
-use book::scope::Scope;
 use collars::pricing::Pricing;
 use rolls::roll::Roll;
 use screens::screen::{QuoteScreen, Screen};
@@ -31,18 +30,14 @@ impl<O: Screen, Q: QuoteScreen, S: PriceSource> Market<O, Q, S> {
         requires series { series < 64 }
         ensures { result ≡ nat_le 256 (count (λ x. not (on_side maker series side x)) (rows_on self.now.floor)) }
     {
-        if self.floor.len() < 256 {
-            return false;
-        }
-        let series = series as u8;
-        let older = OnSide {
+        let older = self.floor.first(&OnSide {
             maker: maker as u8,
-            series,
+            series: series as u8,
             side,
-        };
-        match self.floor.first(Scope::OnSide(series, side), &older) {
+        });
+        match older {
             Some(_) => false,
-            None => true,
+            None => self.floor.len() >= 256,
         }
     }
 
@@ -104,14 +99,14 @@ impl<O: Screen, Q: QuoteScreen, S: PriceSource> Market<O, Q, S> {
     {
         match extent {
             Extent::OneSide => {
-                let series = series as u8;
-                let older = OnSide {
-                    maker: maker as u8,
-                    series,
-                    side,
-                };
-                self.floor
-                    .withdraw_one(Scope::OnSide(series, side), &older, withdrawals);
+                self.floor.withdraw(
+                    &OnSide {
+                        maker: maker as u8,
+                        series: series as u8,
+                        side,
+                    },
+                    withdrawals,
+                );
             }
             Extent::WholeClass => {
                 let class = self.listing.class_of(series as u8);
@@ -143,23 +138,22 @@ impl<O: Screen, Q: QuoteScreen, S: PriceSource> Market<O, Q, S> {
         requires { first (tests_quote (making O.Screen Q.Screen Q.extent S.PriceSource self.old) (state O.Screen Q.Screen Q.extent S.PriceSource self.old) (room_of trades.old withdrawals.old) maker series side price size) ≡ None }
         ensures { ComesWith O.Screen Q.Screen Q.extent S.PriceSource self.old self.new (Ok result) (taken_quote (making O.Screen Q.Screen Q.extent S.PriceSource self.old) (state O.Screen Q.Screen Q.extent S.PriceSource self.old) maker series side price size) trades.old trades.new withdrawals.old withdrawals.new }
     {
-        let maker = maker as u8;
-        let series = series as u8;
-        let older = OnSide {
-            maker,
-            series,
-            side,
-        };
-        self.floor
-            .withdraw_one(Scope::OnSide(series, side), &older, withdrawals);
+        self.floor.withdraw(
+            &OnSide {
+                maker: maker as u8,
+                series: series as u8,
+                side,
+            },
+            withdrawals,
+        );
         let number = self.floor.next();
         let ticket = Ticket {
             number,
-            series,
+            series: series as u8,
             side,
             limit: price,
             size,
-            maker: Some(maker),
+            maker: Some(maker as u8),
         };
         self.floor
             .enter(ticket, Pricing::AtLimit { limit: price }, trades);

@@ -4,19 +4,17 @@ ghost use Rattle.rolls.specs.Rolls.{room};
 ghost use Rattle.book.specs.Lists.{every};
 ghost use Rattle.book.specs.Rows.{row_of, lowest, wanted_from};
 ghost use Rattle.book.specs.Books.{rows};
-ghost use Rattle.book.specs.Scopes.{Within};
 ghost use Rattle.trading.specs.Desks.{pull, second_after, advance, enter, enter_now};
 ghost use Rattle.trading.specs.Doing.{desk, Trading, Withdrawing, count, rivals, displays_in_reach};
 ghost use Rattle.trading.specs.Floors.{rows_on, Leaves};
 
 use crate::floor::Floor;
 use crate::ticket::Ticket;
-use crate::withdrawing::{withdraw_all, withdraw_one};
+use crate::withdrawing::withdraw_all;
 use crate::{advancing, entering};
 use book::book::Book;
 use book::places::Wanted;
 use book::row::{Row, Trade, Withdrawal};
-use book::scope::Scope;
 use collars::pricing::Pricing;
 use rolls::roll::Roll;
 
@@ -61,12 +59,11 @@ impl Floor {
         self.book.row(number)
     }
 
-    // Of the rows that are wanted, the one with the lowest number. The scope has all that are wanted.
-    pub fn first<W: Wanted<Row>>(&self, scope: Scope, wanted: &W) -> Option<Row>
-        requires { Within scope (W.wants wanted.now) }
+    // Of the rows that are wanted, the one with the lowest number.
+    pub fn first<W: Wanted<Row>>(&self, wanted: &W) -> Option<Row>
         ensures { result ≡ lowest (wanted_from (W.wants wanted.now) 0) (rows_on self.now) }
     {
-        self.book.lowest(scope, 0, wanted)
+        self.book.lowest(0, wanted)
     }
 
     // Withdraws every row that is wanted, the lowest number first.
@@ -76,22 +73,6 @@ impl Floor {
         ensures leaves { Leaves self.new self.old.clock self.old.next }
     {
         withdraw_all(&mut self.book, wanted, withdrawals);
-    }
-
-    // Withdraws the one row that is wanted, if there is one, and only in the scope.
-    pub fn withdraw_one<W: Wanted<Row>>(
-        &mut self,
-        scope: Scope,
-        wanted: &W,
-        withdrawals: &mut Roll<Withdrawal>,
-    )
-        requires one { count (W.wants wanted.now) (rows_on self.old) ≤ 1 }
-        requires within { Within scope (W.wants wanted.now) }
-        requires room { 1 ≤ room withdrawals.old }
-        ensures did { Withdrawing (rows_on self.new) withdrawals.old withdrawals.new (pull (W.wants wanted.now) (desk (rows_on self.old))) }
-        ensures leaves { Leaves self.new self.old.clock self.old.next }
-    {
-        withdraw_one(&mut self.book, scope, wanted, withdrawals);
     }
 
     // Moves the clock on.

@@ -1,10 +1,18 @@
-use Rattle.std.proofs.Common.{◌≡◌, ◌<◌, length, take, arith}
-use Rattle.std.proofs.lemmas.List.{length-take-le}
-use Rattle.book.proofs.Finds.{told, first_upto, first_past}
+use Rattle.std.proofs.Common.{◌≡◌, ℕ, ◌<◌, Bool, List, length, get_or, take, sym, ap, ◌∙◌, arith}
+use Rattle.std.proofs.lemmas.List.{length-take-le, get_or-take}
+use Rattle.book.proofs.Finds.{first_within, first_upto, first_past}
 use Rattle.book.proofs.places.parting_place.Goals as goal
 
+-- what the test said of the element that was read holds of it in the list
+told : {X : Type 0} (p : X → Bool) (xs : List X) (n k : ℕ) (x : X) (b : Bool) → k < n → x ≡ get_or xs k x → b ≡ p x → p (get_or (take n xs) k x) ≡ b
+told p xs n k x b l read e = ap p (get_or-take n xs k x l ∙ sym read) ∙ sym e
+
 pub loop-low-init : goal.loop-low-init
-loop-low-init g c = (c.lower_bound-low.ensures, c.upper_bound-high.ensures.bound, c.upper_bound-high.ensures.within)
+loop-low-init g c =
+    let xs = c.args.slots.now in let n = c.args.count in
+    let p = g.W.Wanted.wants c.args.wanted.now in
+    let long : length (take n xs) ≡ n = length-take-le n xs c.requires.room in
+    (omega arith, omega (arith, first_within p (take n xs)), omega arith)
 
 pub loop-low-preserved-then-wants : goal.loop-low-preserved-then-wants
 loop-low-preserved-then-wants g c =

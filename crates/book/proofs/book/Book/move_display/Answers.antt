@@ -1,13 +1,17 @@
-use Rattle.std.proofs.Common.{◌≡◌, ℕ, true, ◌||◌, length, Option, sym, ap, ◌∙◌, subst, arith}
+use Rattle.std.proofs.Common.{◌≡◌, ℕ, ◌≤◌, true, ◌||◌, length, Option, sym, ap, ◌∙◌, subst, arith}
+use Rattle.std.proofs.lemmas.List.{length-take-le}
 use Rattle.book.specs.Lists.{every}
 use Rattle.book.specs.Rows.{agrees, sized, numbered, moved_to, moved_in, may_move_in, insert, without}
 use Rattle.book.specs.Books.{rows}
+use Rattle.book.specs.declared.book.Book.{Book}
 use Rattle.book.specs.declared.row.Row.{Row}
 use Rattle.book.specs.declared.row.Standing.{Standing}
 use Rattle.book.proofs.Keeps.{every_left}
 use Rattle.book.proofs.Tied.{absent_without, found_every, found_less, found_number}
-use Rattle.book.proofs.Sequences.{few_rows}
 use Rattle.book.proofs.book.Book.move_display.Goals as goal
+
+few : (b : Book) → length (rows b) ≤ 256
+few b = let h = b.resting.few in omega (arith, length-take-le b.resting.count b.resting.slots (omega (arith, b.resting.whole)))
 
 -- r at another price, with a standing
 abbrev shown : Row → ℕ → Standing → Row
@@ -25,7 +29,7 @@ insert-requires c =
     subst (λ (k : ℕ). every (λ x. numbered k x || agrees moved x) (rows b) ≡ true) (found_number n (rows b) r f)
     (sym (ap (λ (o : Option Row). may_move_in o c.args.display c.args.due (rows b)) f) ∙ c.requires) in
     record {
-      room = omega (arith, few_rows b.resting.sequence, found_less (numbered n) (rows b) r f, ap length c.in-Some.ensures.after);
+      room = omega (arith, few b, found_less (numbered n) (rows b) r f, ap length c.in-Some.ensures.after);
       fits = subst (λ (x : Row). every (agrees x) (rows c.withdraw.new.self) ≡ true) is (ap (every (agrees (moved_to c.args.display c.args.due r))) c.in-Some.ensures.after ∙ every_left (numbered n) (agrees moved) (rows b) clear);
       some = found_every sized (numbered n) (rows b) r b.resting.sound.2 f;
     }

@@ -1,7 +1,6 @@
-use Rattle.std.proofs.Common.{Some, ap, ◌∙◌, arith, sym, subst}
+use Rattle.std.proofs.Common.{arith, sym, subst}
 use Rattle.book.specs.Listings.{ranked}
 use Rattle.book.specs.Rows.{Sound, numbered}
-use Rattle.book.specs.Slots.{blank}
 use Rattle.book.proofs.Sound.{sound_without, single_number}
 use Rattle.book.proofs.Steps.{found_at, nowhere_found, lacking_at, nowhere_lacking}
 use Rattle.book.proofs.resting.Rows.remove.Goals as goal
@@ -10,22 +9,22 @@ pub invariant_of-self : goal.invariant_of-self
 invariant_of-self c =
     let b = c.args.self.now in
     let n = c.args.number in
-    record { sound = subst Sound (sym (lacking_at (numbered n) (ranked b) _ c.place-at.ensures _ (single_number n (ranked b) b.sound) (omega (arith, c.len.ensures.count)) c.close.ensures)) (sound_without n (ranked b) b.sound) }
+    record { few = (omega arith); whole = (omega arith); sound = subst Sound (sym (lacking_at (numbered n) b.slots b.count _ c.first_place-at.ensures (omega arith) _ (single_number n (ranked b) b.sound) (omega arith) c.close_place.ensures.front)) (sound_without n (ranked b) b.sound) }
 
-pub returns-then-at-len : goal.returns-then-at-len
-returns-then-at-len c =
+pub returns-then-at-self : goal.returns-then-at-self
+returns-then-at-self c =
     let b = c.args.self.now in
     let n = c.args.number in
     record {
-      answer = ap Some c.get-row.ensures ∙ found_at (numbered n) (ranked b) _ c.place-at.ensures blank (omega (arith, c.len.ensures.count));
-      after = lacking_at (numbered n) (ranked b) _ c.place-at.ensures _ (single_number n (ranked b) b.sound) (omega (arith, c.len.ensures.count)) c.close.ensures;
+      answer = found_at (numbered n) b.slots b.count _ c.first_place-at.ensures (omega arith) _ (omega arith);
+      after = lacking_at (numbered n) b.slots b.count _ c.first_place-at.ensures (omega arith) _ (single_number n (ranked b) b.sound) (omega arith) c.close_place.ensures.front;
     }
 
-pub returns-else-at-len : goal.returns-else-at-len
-returns-else-at-len c =
+pub returns-else-at-self : goal.returns-else-at-self
+returns-else-at-self c =
     let b = c.args.self.now in
     let n = c.args.number in
     record {
-      answer = nowhere_found (numbered n) (ranked b) _ c.place-at.ensures (omega (arith, c.len.ensures.count));
-      after = nowhere_lacking (numbered n) (ranked b) _ c.place-at.ensures (omega (arith, c.len.ensures.count));
+      answer = nowhere_found (numbered n) b.slots b.count _ c.first_place-at.ensures (omega arith) (omega arith);
+      after = nowhere_lacking (numbered n) b.slots b.count _ c.first_place-at.ensures (omega arith) (omega arith);
     }

@@ -1,16 +1,14 @@
-use Rattle.std.proofs.Common.{Some, ap, ◌∙◌, arith}
-use Rattle.book.specs.Listings.{ranked}
+use Rattle.std.proofs.Common.{arith}
 use Rattle.book.specs.Rows.{numbered}
-use Rattle.book.specs.Slots.{blank}
 use Rattle.book.proofs.Steps.{found_at, nowhere_found}
 use Rattle.book.proofs.resting.Rows.row.Goals as goal
 
-pub returns-then-at-len : goal.returns-then-at-len
-returns-then-at-len c =
+pub returns-then-at-self : goal.returns-then-at-self
+returns-then-at-self c =
     let b = c.args.self.now in
-    ap Some c.get.ensures ∙ found_at (numbered c.args.number) (ranked b) _ c.place-at.ensures blank (omega (arith, c.len.ensures.count))
+    found_at (numbered c.args.number) b.slots b.count _ c.first_place-at.ensures (omega arith) _ (omega arith)
 
-pub returns-else-at-len : goal.returns-else-at-len
-returns-else-at-len c =
+pub returns-else-at-self : goal.returns-else-at-self
+returns-else-at-self c =
     let b = c.args.self.now in
-    nowhere_found (numbered c.args.number) (ranked b) _ c.place-at.ensures (omega (arith, c.len.ensures.count))
+    nowhere_found (numbered c.args.number) b.slots b.count _ c.first_place-at.ensures (omega arith) (omega arith)

@@ -1,12 +1,6 @@
 use Rattle.std.proofs.Common.{sym, ◌∙◌, arith}
-use Rattle.market.proofs.Moves.{roomy, clock_comes}
-use Rattle.market.proofs.Taken.{few_rows}
+use Rattle.market.proofs.Moves.{clock_comes}
 use Rattle.market.proofs.market.Market.advance.Goals as goal
-
-pub advance-requires : goal.advance-requires
-advance-requires g c =
-    let room = roomy c.args.trades.now c.args.withdrawals.now (sym c.is_tight.ensures ∙ c.if-is_tight.false) in
-    record { room = omega (arith, few_rows c.args.self.now.floor, room.0); step = omega arith; end = omega (arith, c.clock.ensures) }
 
 pub returns : goal.returns
 returns g c =

@@ -5,17 +5,16 @@ use Rattle.trading.specs.Floors.{rows_on}
 use Rattle.market.specs.Tests.{is_mine}
 use Rattle.market.specs.Listings.{listed, class_in, mine_in}
 use Rattle.market.proofs.Listed.{known_at}
-use Rattle.market.proofs.Quotas.{side_one, side_within, mine_few}
+use Rattle.market.proofs.Quotas.{side_one, mine_few}
 use Rattle.market.proofs.market.Market.lose_quotes.Goals as goal
-
-pub withdraw_one-requires : goal.withdraw_one-requires
-withdraw_one-requires g c =
-    let floor = c.args.self.now.floor in
-    let k = c.args.maker in let s = c.args.series in let side = c.args.side in
-    record { one = side_one k s side (rows_on floor) floor.book.resting.sound; within = side_within k s side; room = omega (arith, c.requires.room) }
 
 pub withdraw-requires : goal.withdraw-requires
 withdraw-requires g c =
+    let floor = c.args.self.now.floor in
+    omega (arith, c.requires.room, side_one c.args.maker c.args.series c.args.side (rows_on floor) floor.book.resting.sound)
+
+pub withdraw-requires-in-WholeClass : goal.withdraw-requires-in-WholeClass
+withdraw-requires-in-WholeClass g c =
     let floor = c.args.self.now.floor in
     let ss = listed c.args.self.now.listing in
     omega (
