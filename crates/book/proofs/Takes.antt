@@ -175,12 +175,12 @@ take_step due t n (x ∷ xs) j b p all sizes e =
     here : in_reach t x ≡ true → 0 < x.size → take due t n (x ∷ xs) j ≡ take due t (n - min n x.size) (settle due (min n x.size) x.number (x ∷ xs)) (trade_with t (min n x.size) x ∷ j)
     here s some =
         let q = min n x.size in
-        let is-q : amount t n x ≡ q = cond-true _ _ _ s in
+        let is_q : amount t n x ≡ q = cond-true _ _ _ s in
         let pos : 0 < q = omega arith in
         let j' = trade_with t q x ∷ j in
         let f = take due t (n - q) xs j' in
         let step : take due t n (x ∷ xs) j ≡ fill f.left (cut due q x f.rows) f.trades =
-        take_cons due t n x xs j ∙ ap (after due t n x xs j) is-q ∙ ap (λ (l : List Trade). fill (take due t (n - q) xs l).left (cut due q x (take due t (n - q) xs l).rows) (take due t (n - q) xs l).trades) (note_some q (trade_with t q x) j pos) in
+        take_cons due t n x xs j ∙ ap (after due t n x xs j) is_q ∙ ap (λ (l : List Trade). fill (take due t (n - q) xs l).left (cut due q x (take due t (n - q) xs l).rows) (take due t (n - q) xs l).trades) (note_some q (trade_with t q x) j pos) in
         let settled : settle due q x.number (x ∷ xs) ≡ cut due q x xs = settle_here due q x.number x xs (self x.number) in
         decide (leb x.size n)
         (λ l.

@@ -234,13 +234,13 @@ module _ (k : ℕ) (was : ℕ → Option ℕ) where
   unfolding Dated move_on
   move_on_dated d ok r c m is how h =
       let has = row_of_has r.number d.rows r is in
-      let was-due : at r.number d.journal ≡ Some m = subst (λ (x : Standing). DatedAs x (at r.number d.journal)) how (h r has) in
+      let was_due : at r.number d.journal ≡ Some m = subst (λ (x : Standing). DatedAs x (at r.number d.journal)) how (h r has) in
       let to = onwards r c in
       let x = moved_to to (second_after m) r in
       let j = Moved r.number to ∷ d.journal in
       subst (λ (xs : List Row). (y : Row) → Has y xs → DatedAs y.standing (at y.number j)) (sym (moved_rows d ok r c m m is how))
       (λ y i. ⊎_elim
-      (λ e. subst (λ (w : Row). DatedAs w.standing (at w.number j)) (sym e) (subst (λ (w : Standing). DatedAs (once_moved (eqb to r.limit) (second_after m) w) (at r.number j)) (sym how) (by (eqb to r.limit) (moved_at r.number to d.journal m was-due))))
+      (λ e. subst (λ (w : Row). DatedAs w.standing (at w.number j)) (sym e) (subst (λ (w : Standing). DatedAs (once_moved (eqb to r.limit) (second_after m) w) (at r.number j)) (sym how) (by (eqb to r.limit) (moved_at r.number to d.journal m was_due))))
       (λ e. let g = has_without r.number d.rows y e in subst (DatedAs y.standing) (sym (not_moved y.number r.number to d.journal g.1)) (h y g.0))
       (has_insert x (without r.number d.rows) y i))
     where

@@ -147,11 +147,11 @@ module _ (n k low : ℕ) (was : ℕ → Option ℕ) (late : low ≤ k) (soon : B
       let one : cond {A = ℕ} (eqb i n) 1 0 ≡ 1 = rw e in
       let now : cond (eqb i n) (second_later (D j)) (D j) ≡ Some (d.0 + 1000) = rw e (ap second_later d.1) in
       let list : note_moment (eqb i n) (D j) old ≡ d.0 ∷ old = rw (e, d.1) in
-      let below-it : AllByRecursion (λ x. x + 1000 ≤ d.0) old = subst (λ (o : Option ℕ). Next o old) d.1 far.2 in
+      let below_it : AllByRecursion (λ x. x + 1000 ≤ d.0) old = subst (λ (o : Option ℕ). Next o old) d.1 far.2 in
       let count = far.0 in
       subst (λ (o : Option ℕ). Apart o (cond (eqb i n) 1 0 + times_moved n j + c) (note_moment (eqb i n) (D j) old)) (sym now)
       (subst (λ (l : List ℕ). Apart (Some (d.0 + 1000)) (cond (eqb i n) 1 0 + times_moved n j + c) l) (sym list)
-      (omega arith, (below-it, far.1), (omega arith, all_more d.0 (d.0 + 1000) old (omega arith) below-it))))
+      (omega arith, (below_it, far.1), (omega arith, all_more d.0 (d.0 + 1000) old (omega arith) below_it))))
       (λ e.
       let none : cond {A = ℕ} (eqb i n) 1 0 ≡ 0 = rw e in
       let now : cond (eqb i n) (second_later (D j)) (D j) ≡ D j = rw e in

@@ -97,12 +97,12 @@ module _ (k : ℕ) (was : ℕ → Option ℕ) (low : ℕ) where
     moved_timed : {top : ℕ} (d : Desk) → Ticking top d → (r : Row) (c m : ℕ) → row_of r.number d.rows ≡ Some r → r.standing ≡ Held c m → m ≤ k → Timed low (k + 1000) (move_on r c m d).rows
     moved_timed d ok r c m is how due =
         let has = row_of_has r.number d.rows r is in
-        let was-in : DueIn low (k + 1000) (Held c m) = subst (DueIn low (k + 1000)) how (has_timed low (k + 1000) r d.rows has ok.timed) in
+        let was_in : DueIn low (k + 1000) (Held c m) = subst (DueIn low (k + 1000)) how (has_timed low (k + 1000) r d.rows has ok.timed) in
         let to = onwards r c in
         let x = moved_to to (second_after m) r in
         subst (Timed low (k + 1000)) (sym (moved_rows d ok.rested r c m m is how))
         (insert_timed low (k + 1000) x (without r.number d.rows)
-        (subst (λ (y : Standing). DueIn low (k + 1000) (once_moved (eqb to r.limit) (second_after m) y)) (sym how) (by (eqb to r.limit) (let w = was-in.0 in omega arith) (omega arith)))
+        (subst (λ (y : Standing). DueIn low (k + 1000) (once_moved (eqb to r.limit) (second_after m) y)) (sym how) (by (eqb to r.limit) (let w = was_in.0 in omega arith) (omega arith)))
         (without_timed low (k + 1000) r.number d.rows ok.timed))
       where
         by : (b : Bool) → low < second_after m → second_after m ≤ k + 1000 → DueIn low (k + 1000) (once_moved b (second_after m) (Held c m))
@@ -114,13 +114,13 @@ module _ (k : ℕ) (was : ℕ → Option ℕ) (low : ℕ) where
     moved_ticking d r c m is how due ok =
         let has = row_of_has r.number d.rows r is in
         let sane = move_on_sane d ok.rested r c m m is how in
-        let was-in : DueIn low (k + 1000) (Held c m) = subst (DueIn low (k + 1000)) how (has_timed low (k + 1000) r d.rows has ok.timed) in
-        let was-due : at k was r.number d.journal ≡ Some m = subst (λ (x : Standing). DatedAs x (at k was r.number d.journal)) how (ok.dated r has) in
+        let was_in : DueIn low (k + 1000) (Held c m) = subst (DueIn low (k + 1000)) how (has_timed low (k + 1000) r d.rows has ok.timed) in
+        let was_due : at k was r.number d.journal ≡ Some m = subst (λ (x : Standing). DatedAs x (at k was r.number d.journal)) how (ok.dated r has) in
         record {
           rested = serve_rested (move_on r c m d) (second_after k) r.series sane (move_on_others d ok.rested r c m m is how);
           timed = serve_timed low (k + 1000) (second_after k) (omega arith) (omega arith) r.series (move_on r c m d) (moved_timed d ok r c m is how due);
           dated = serve_dated k was r.series (move_on r c m d) sane (move_on_dated k was d ok.rested r c m is how ok.dated);
-          fallen = serve_due (second_after k) r.series (move_on r c m d) ((m, was-due, was-in.0, due), ok.fallen);
+          fallen = serve_due (second_after k) r.series (move_on r c m d) ((m, was_due, was_in.0, due), ok.fallen);
         }
 
     pub advance_ticking : {top : ℕ} (d : Desk) → Ticking top d → Ticking top (advance k d)

@@ -323,10 +323,10 @@ module _ (low high k : ℕ) (soon : k ≤ low + 1000) (late : low ≤ k) (within
   first_clocked {top} d b ok e w due t n =
       let f = earliest_some d.rows e w in
       let at : row_of f.row.number d.rows ≡ Some f.row = row_of_of f.row d.rows ok.0.distinct f.there in
-      let at-e : row_of e.number d.rows ≡ Some f.row = subst (λ (y : ℕ). row_of y d.rows ≡ Some f.row) f.named at in
+      let at_e : row_of e.number d.rows ≡ Some f.row = subst (λ (y : ℕ). row_of y d.rows ≡ Some f.row) f.named at in
       let c = f.collar in
       let m = moved_clocked d b f.row c e.moment ok at f.how due t n in
-      rw at-e (by f.row.standing f.how (
+      rw at_e (by f.row.standing f.how (
         serve_timed low high (second_after k) (omega arith) (omega arith) f.row.series (move_on f.row c e.moment d) m.0,
         omega (arith, serve_due (second_after k) k (omega arith) f.row.series (move_on f.row c e.moment d), m.1),
       ))

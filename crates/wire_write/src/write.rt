@@ -36,7 +36,8 @@ impl Tail {
 
     // The digits of a count.
     fn put_digits(&mut self, n: u32)
-        requires { (n < 10 ^ 9) × (9 ≤ self.old.start) }
+        requires short { n < 10 ^ 9 }
+        requires room { 9 ≤ self.old.start }
         ensures made { made self.new ≡ decimal n ++ made self.old }
         ensures near { self.old.start ≤ self.new.start + 9 }
     {
@@ -125,7 +126,8 @@ impl Tail {
 
     // A price at the end of a line, and before it the letter of its event.
     fn put_priced_event(&mut self, letter: u8, price: Price) -> Result<(), Refusal>
-        requires { (12 ≤ self.old.start) × (made self.old ≡ []) }
+        requires room { 12 ≤ self.old.start }
+        requires empty { made self.old ≡ [] }
         ensures { Grows self.old (tab (Some (letter ∷ [])) (newline (count price))) 12 result self.new }
     {
         self.put_count(price, b'\n')?;
@@ -135,7 +137,8 @@ impl Tail {
 
     // An event at the end of a line.
     fn put_event(&mut self, event: Event) -> Result<(), Refusal>
-        requires { (12 ≤ self.old.start) × (made self.old ≡ []) }
+        requires room { 12 ≤ self.old.start }
+        requires empty { made self.old ≡ [] }
         ensures { Grows self.old (event_text event) 12 result self.new }
     {
         match event {
@@ -150,7 +153,8 @@ impl Tail {
 
     // The nine forms, each from its last field to its letter.
     fn put_series(&mut self, class: u32, kind: Kind, strike: Price) -> Result<(), Refusal>
-        requires { (self.old.start ≡ 80) × (made self.old ≡ []) }
+        requires room { self.old.start ≡ 80 }
+        requires empty { made self.old ≡ [] }
         ensures { Grows self.old (written (Line.Series class kind strike)) 80 result self.new }
     {
         self.put_count(strike, b'\n')?;
@@ -166,7 +170,8 @@ impl Tail {
         bid: Option<Price>,
         offer: Option<Price>,
     ) -> Result<(), Refusal>
-        requires { (self.old.start ≡ 80) × (made self.old ≡ []) }
+        requires room { self.old.start ≡ 80 }
+        requires empty { made self.old ≡ [] }
         ensures { Grows self.old (written (Line.Nbbo series bid offer)) 80 result self.new }
     {
         self.put_optional(offer, b'\n')?;
@@ -177,7 +182,8 @@ impl Tail {
     }
 
     fn put_tape(&mut self, class: u32, event: Event) -> Result<(), Refusal>
-        requires { (self.old.start ≡ 80) × (made self.old ≡ []) }
+        requires room { self.old.start ≡ 80 }
+        requires empty { made self.old ≡ [] }
         ensures { Grows self.old (written (Line.Event class event)) 80 result self.new }
     {
         self.put_event(event)?;
@@ -194,7 +200,8 @@ impl Tail {
         size: u32,
         condition: Condition,
     ) -> Result<(), Refusal>
-        requires { (self.old.start ≡ 80) × (made self.old ≡ []) }
+        requires room { self.old.start ≡ 80 }
+        requires empty { made self.old ≡ [] }
         ensures { Grows self.old (written (Line.Order series side price size condition)) 80 result self.new }
     {
         self.put_condition(condition);
@@ -214,7 +221,8 @@ impl Tail {
         price: Price,
         size: u32,
     ) -> Result<(), Refusal>
-        requires { (self.old.start ≡ 80) × (made self.old ≡ []) }
+        requires room { self.old.start ≡ 80 }
+        requires empty { made self.old ≡ [] }
         ensures { Grows self.old (written (Line.Quote maker series side price size)) 80 result self.new }
     {
         self.put_count(size, b'\n')?;
@@ -227,7 +235,8 @@ impl Tail {
     }
 
     fn put_enable(&mut self, maker: u32, class: u32) -> Result<(), Refusal>
-        requires { (self.old.start ≡ 80) × (made self.old ≡ []) }
+        requires room { self.old.start ≡ 80 }
+        requires empty { made self.old ≡ [] }
         ensures { Grows self.old (written (Line.Enable maker class)) 80 result self.new }
     {
         self.put_count(class, b'\n')?;
@@ -237,7 +246,8 @@ impl Tail {
     }
 
     fn put_withdraw(&mut self, number: u32) -> Result<(), Refusal>
-        requires { (self.old.start ≡ 80) × (made self.old ≡ []) }
+        requires room { self.old.start ≡ 80 }
+        requires empty { made self.old ≡ [] }
         ensures { Grows self.old (written (Line.Withdraw number)) 80 result self.new }
     {
         self.put_count(number, b'\n')?;
@@ -246,7 +256,8 @@ impl Tail {
     }
 
     fn put_clock(&mut self, ms: u32) -> Result<(), Refusal>
-        requires { (self.old.start ≡ 80) × (made self.old ≡ []) }
+        requires room { self.old.start ≡ 80 }
+        requires empty { made self.old ≡ [] }
         ensures { Grows self.old (written (Line.Clock ms)) 80 result self.new }
     {
         self.put_count(ms, b'\n')?;
@@ -261,7 +272,8 @@ impl Tail {
         first: u32,
         second: u32,
     ) -> Result<(), Refusal>
-        requires { (self.old.start ≡ 80) × (made self.old ≡ []) }
+        requires room { self.old.start ≡ 80 }
+        requires empty { made self.old ≡ [] }
         ensures { Grows self.old (written (Line.Width series width first second)) 80 result self.new }
     {
         self.put_count(second, b'\n')?;
@@ -273,7 +285,8 @@ impl Tail {
     }
 
     fn put_line(&mut self, line: Line) -> Result<(), Refusal>
-        requires { (self.old.start ≡ 80) × (made self.old ≡ []) }
+        requires room { self.old.start ≡ 80 }
+        requires empty { made self.old ≡ [] }
         ensures { Grows self.old (written line) 80 result self.new }
     {
         match line {

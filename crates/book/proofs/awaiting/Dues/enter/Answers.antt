@@ -1,8 +1,7 @@
 use Rattle.std.proofs.Common.{◌≡◌, length, arith, sym, subst}
-use Rattle.book.specs.Dues.{InTurn}
 use Rattle.std.proofs.lemmas.List.{length-take-le}
+use Rattle.book.specs.Dues.{InTurn, sooner}
 use Rattle.book.specs.Listings.{waiting}
-use Rattle.book.specs.Dues.{sooner}
 use Rattle.book.proofs.Turns.{turns_entered}
 use Rattle.book.proofs.Steps.{at_within, placed_at}
 use Rattle.book.proofs.awaiting.Dues.enter.Goals as goal
@@ -18,7 +17,13 @@ invariant_of-self c =
     let b = c.args.self.now in
     let due = c.args.due in
     let long : length (waiting b) ≡ b.count = length-take-le b.count b.slots (omega arith) in
-    record { few = (omega arith); whole = (omega arith); turns = subst InTurn (sym (placed_at (sooner due) b.slots b.count _ c.first_place-at.ensures (omega arith) _ due c.open_place.ensures.front)) (turns_entered due (waiting b) c.requires.unused b.turns) }
+    record {
+      few = omega arith;
+      whole = omega arith;
+      turns =
+          subst InTurn (sym (placed_at (sooner due) b.slots b.count _ c.first_place-at.ensures (omega arith) _ due c.open_place.ensures.front))
+          (turns_entered due (waiting b) c.requires.unused b.turns);
+    }
 
 pub returns : goal.returns
 returns c =

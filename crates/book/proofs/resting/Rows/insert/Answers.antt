@@ -22,7 +22,13 @@ invariant_of-self c =
     let b = c.args.self.now in
     let row = c.args.row in
     let long : length (ranked b) ≡ b.count = length-take-le b.count b.slots (omega arith) in
-    record { few = (omega arith); whole = (omega arith); sound = subst Sound (sym (placed_at (precedes row) b.slots b.count _ c.parting_place-at.ensures (omega arith) _ row c.open_place.ensures.front)) (sound_insert row (ranked b) c.requires.fits c.requires.some b.sound) }
+    record {
+      few = omega arith;
+      whole = omega arith;
+      sound =
+          subst Sound (sym (placed_at (precedes row) b.slots b.count _ c.parting_place-at.ensures (omega arith) _ row c.open_place.ensures.front))
+          (sound_insert row (ranked b) c.requires.fits c.requires.some b.sound);
+    }
 
 pub returns : goal.returns
 returns c =

@@ -9,7 +9,13 @@ pub invariant_of-self : goal.invariant_of-self
 invariant_of-self c =
     let b = c.args.self.now in
     let n = c.args.number in
-    record { few = (omega arith); whole = (omega arith); sound = subst Sound (sym (lacking_at (numbered n) b.slots b.count _ c.first_place-at.ensures (omega arith) _ (single_number n (ranked b) b.sound) (omega arith) c.close_place.ensures.front)) (sound_without n (ranked b) b.sound) }
+    record {
+      few = omega arith;
+      whole = omega arith;
+      sound =
+          subst Sound (sym (lacking_at (numbered n) b.slots b.count _ c.first_place-at.ensures (omega arith) _ (single_number n (ranked b) b.sound) (omega arith) c.close_place.ensures.front))
+          (sound_without n (ranked b) b.sound);
+    }
 
 pub returns-then-at-self : goal.returns-then-at-self
 returns-then-at-self c =

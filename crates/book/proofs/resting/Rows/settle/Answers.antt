@@ -33,7 +33,7 @@ invariant_of-self c =
     let some = some_left c.args.due c.args.by (get_or b.slots at blank) c.in-Some.left c.in-Some.ensures in
     record {
       few = b.few;
-      whole = (simp length-set b.whole);
+      whole = simp length-set b.whole;
       sound = subst Sound (sym (written c.args.number b.slots b.count at c.args.due c.args.by c.in-Some.left
           (part_at c.args.number b.slots b.count _ c.first_place-at.ensures (omega arith) c.args.due c.args.by blank (omega arith) (omega arith) some.0) some.1)) (sound_settle c.args.due c.args.by c.args.number (ranked b) b.sound);
     }
@@ -42,8 +42,8 @@ pub invariant_of-self-in-None : goal.invariant_of-self-in-None
 invariant_of-self-in-None c =
     let b = c.args.self.now in
     record {
-      few = (omega arith);
-      whole = (omega arith);
+      few = omega arith;
+      whole = omega arith;
       sound = subst Sound (sym (gone_at c.args.number b.slots b.count _ c.first_place-at.ensures (omega arith) c.args.due c.args.by blank _ (omega arith) (omega arith)
           (none_left c.args.due c.args.by (get_or b.slots c.first_place-at.result blank) c.in-None.ensures) c.close_place.ensures.front)) (sound_settle c.args.due c.args.by c.args.number (ranked b) b.sound);
     }
@@ -71,10 +71,10 @@ returns-in-None c =
 pub returns-else-by-gt0 : goal.returns-else-by-gt0
 returns-else-by-gt0 c =
     let b = c.args.self.now in
-    let zero-by : c.args.by ≡ 0 = omega arith in
+    let zero_by : c.args.by ≡ 0 = omega arith in
     record {
       answer = found_at (numbered c.args.number) b.slots b.count _ c.first_place-at.ensures (omega arith) _ (omega arith);
-      after = sym (ap (λ q. settle c.args.due q c.args.number (ranked b)) zero-by ∙ settle_nothing c.args.due c.args.number (ranked b));
+      after = sym (ap (λ q. settle c.args.due q c.args.number (ranked b)) zero_by ∙ settle_nothing c.args.due c.args.number (ranked b));
     }
 
 pub returns-else-at-self : goal.returns-else-at-self
