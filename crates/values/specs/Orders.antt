@@ -1,5 +1,7 @@
--- An order's limit.
-use Rattle.std.specs.Prelude.{ℕ}
+-- An order's limit, and the kind of an option.
+use Rattle.std.specs.Prelude.{ℕ, List, codes}
+use Rattle.values.specs.declared.order.Kind.{Kind}
+use Rattle.values.specs.declared.order.Kind.TheVariants.{Call, Put}
 use Rattle.values.specs.declared.order.OrderPrice.{OrderPrice}
 use Rattle.values.specs.declared.order.OrderPrice.TheVariants.{Market, Limit}
 use Rattle.values.specs.declared.side.Side.{Side}
@@ -10,3 +12,8 @@ abbrev pub limit_of : Side → OrderPrice → ℕ
 limit_of Buy Market = 10000000
 limit_of Sell Market = 1
 limit_of s (Limit p) = p
+
+-- as it is printed
+abbrev pub kind_word : Kind → List ℕ
+kind_word Call = codes "call"
+kind_word Put = codes "put"

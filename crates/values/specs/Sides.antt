@@ -1,5 +1,5 @@
 -- The two sides of a market, and aggressive prices: a higher buy price or a lower sell price is more aggressive.
-use Rattle.std.specs.Prelude.{ℕ, ◌+◌, ◌-◌, ◌≤◌, min, max, Bool, nat_le}
+use Rattle.std.specs.Prelude.{ℕ, ◌+◌, ◌-◌, ◌≤◌, min, max, Bool, List, codes, nat_le}
 use Rattle.values.specs.declared.side.Side.{Side}
 use Rattle.values.specs.declared.side.Side.TheVariants.{Buy, Sell}
 
@@ -29,3 +29,8 @@ less_aggressive Sell p q = max p q
 -- c cents onward from p, not past the limit
 abbrev pub onward : Side → ℕ → ℕ → ℕ → ℕ
 onward s p c limit = less_aggressive s (ahead s p c) limit
+
+-- as it is printed
+abbrev pub side_word : Side → List ℕ
+side_word Buy = codes "buy"
+side_word Sell = codes "sell"

@@ -1,7 +1,8 @@
 // The values that the rest of the market speaks of: sides and prices, the national best bid and offer, reference prices and
-// their events, the words of an order, and the table of refusals.
+// their events, the words of an order, the calls of a market, and the table of refusals.
 #![tactic(auto)]
 
+pub mod call;
 pub mod nbbo;
 pub mod order;
 pub mod reference;

@@ -1,9 +1,13 @@
 // The table of refusals: why a call is not taken, with the number and the word by which it is reported.
-ghost use Rattle.std.specs.Prelude.{◌≡◌};
+ghost use Rattle.std.specs.Prelude.{◌≡◌, Some};
 ghost use Rattle.values.specs.Refusals.{cause_number, cause_word, number, word};
+ghost use Rattle.values.specs.declared.refusal.Refusal.TheVariants.{Screen};
+
+use std::error::Error;
+use std::fmt;
 
 // Why a screen refuses a price.
-#[derive(Clone, Copy)]
+#[derive(Clone, Copy, Debug, PartialEq, Eq)]
 pub enum Cause {
     // Too far through the best price of the contra side.
     Through,
@@ -14,7 +18,7 @@ pub enum Cause {
 }
 
 // Why a call is refused, in the order in which the causes are tested.
-#[derive(Clone, Copy)]
+#[derive(Clone, Copy, Debug, PartialEq, Eq)]
 pub enum Refusal {
     // A line, or what is to be written as one, has none of the forms.
     Shape,
@@ -73,6 +77,7 @@ impl Cause {
 }
 
 impl Refusal {
+    // The number by which it is reported. Named, and no `From`: that the conversion is to the published number is what counts.
     pub fn number(self) -> u8
         ensures { result ≡ number self }
     {
@@ -96,6 +101,7 @@ impl Refusal {
         }
     }
 
+    // The word by which it is reported.
     pub fn word(self) -> &'static str
         ensures { result.now ≡ word self }
     {
@@ -119,3 +125,22 @@ impl Refusal {
         }
     }
 }
+
+impl From<Cause> for Refusal {
+    ghost from_gives = { λ cause refusal. refusal ≡ Screen cause };
+
+    fn from(cause: Cause) -> Self {
+        Self::Screen(cause)
+    }
+}
+
+// A refusal prints as its word.
+impl fmt::Display for Refusal {
+    ghost output = { λ refusal. Some (word refusal) };
+
+    fn fmt<W: fmt::Write>(&self, f: &mut fmt::Formatter<W>) -> fmt::Result {
+        f.write_str(self.word())
+    }
+}
+
+impl Error for Refusal {}

@@ -1,11 +1,14 @@
 // The two sides of a market, and what it means that one price is more aggressive than another.
-ghost use Rattle.std.specs.Prelude.{◌≡◌};
-ghost use Rattle.values.specs.Sides.{opposite, no_more_aggressive, onward};
+ghost use Rattle.std.specs.Prelude.{◌≡◌, Some};
+ghost use Rattle.values.specs.Sides.{opposite, no_more_aggressive, onward, side_word};
+
+use std::fmt;
 
 // Whole cents.
 pub type Price = u32;
 
-#[derive(Clone, Copy)]
+// Bids come before offers.
+#[derive(Clone, Copy, Debug, PartialEq, Eq, PartialOrd, Ord)]
 pub enum Side {
     Buy,
     Sell,
@@ -39,5 +42,16 @@ impl Side {
             Side::Buy => price.saturating_add(width).min(limit),
             Side::Sell => price.saturating_sub(width).max(limit),
         }
+    }
+}
+
+impl fmt::Display for Side {
+    ghost output = { λ side. Some (side_word side) };
+
+    fn fmt<W: fmt::Write>(&self, f: &mut fmt::Formatter<W>) -> fmt::Result {
+        f.write_str(match self {
+            Side::Buy => "buy",
+            Side::Sell => "sell",
+        })
     }
 }
