@@ -37,10 +37,7 @@ impl Settings {
     pub fn width(&self, bid: Price) -> Price
         ensures { result ≡ width_by self.now.width bid }
     {
-        match self.width {
-            Some(width) => width,
-            None => ladder(bid),
-        }
+        self.width.unwrap_or_else(|| ladder(bid))
     }
 
     // Puts an update in force, which spends it.

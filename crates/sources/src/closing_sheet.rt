@@ -10,25 +10,23 @@ use values::side::Price;
 
 #[derive(Clone, Copy)]
 pub struct ClosingSheet {
-    closes: [Option<Price>; 16],
+    closes: [Option<Price>; CLASSES],
     ghost full: { length closes ≡ 16 },
 }
 
 impl ClosingSheet {
-    pub fn new(closes: [Option<Price>; 16]) -> ClosingSheet
+    pub fn new(closes: [Option<Price>; CLASSES]) -> ClosingSheet
         ensures { result.closes ≡ closes }
     {
         ClosingSheet { closes }
     }
 }
 
+// A close, or nothing known where it is blank: named, since a `From` would hide which reference it makes.
 fn close_of(close: Option<Price>) -> Reference
     ensures { result ≡ close_of close }
 {
-    match close {
-        Some(price) => Reference::Close(price),
-        None => Reference::Absent,
-    }
+    close.map_or(Reference::Absent, Reference::Close)
 }
 
 impl PriceSource for ClosingSheet {
@@ -43,11 +41,7 @@ impl PriceSource for ClosingSheet {
     }
 
     fn reference(&self, class: usize) -> Reference {
-        if class < CLASSES {
-            close_of(self.closes[class])
-        } else {
-            Reference::Absent
-        }
+        close_of(self.closes.get(class).copied().flatten())
     }
 
     fn tell(&mut self, _class: usize, _event: Event) {}

@@ -7,7 +7,7 @@ use values::reference::{Event, Reference};
 
 #[derive(Clone, Copy)]
 pub struct Tape {
-    current: [Reference; 16],
+    current: [Reference; CLASSES],
     ghost full: { length current ≡ 16 },
 }
 
@@ -17,7 +17,7 @@ impl Tape {
         ensures { result.current ≡ replicate 16 Absent }
     {
         Tape {
-            current: [Reference::Absent; 16],
+            current: [Reference::Absent; CLASSES],
         }
     }
 }
@@ -34,14 +34,14 @@ impl PriceSource for Tape {
     }
 
     fn reference(&self, class: usize) -> Reference {
-        if class < CLASSES {
-            self.current[class]
-        } else {
-            Reference::Absent
-        }
+        self.current
+            .get(class)
+            .copied()
+            .unwrap_or(Reference::Absent)
     }
 
     fn tell(&mut self, class: usize, event: Event) {
+        // by its index: what `get_mut` lends comes back in no proof here
         if class < CLASSES {
             self.current[class].take(event);
         }

@@ -16,7 +16,7 @@ pub fn check_width(width: Option<Price>) -> Result<(), Refusal>
     }
 }
 
-// Whether there is such an official: 0 to 15.
+// Whether there is such an official: 0 to 15. A check of a plain number, since the stages of an update are of plain numbers.
 pub fn check_official(official: u32) -> Result<(), Refusal>
     ensures { result ≡ official_check official }
 {
