@@ -1,9 +1,8 @@
--- What a search's place, an element put there and elements left out leave of a list.
-use Rattle.std.proofs.Common.{◌≡◌, ℕ, zero, suc, ◌<◌, ◌≤◌, Bool, true, false, cond, not, ◌&&◌, ◌||◌, eqb, List, [], ◌∷◌, length, get_or, take, Some, None, sym, refl, ap, ◌∙◌, arith}
-use Rattle.std.specs.List.{insert, remove}
+-- What an element put in and elements left out leave of a list.
+use Rattle.std.proofs.Common.{◌≡◌, ℕ, zero, suc, ◌≤◌, Bool, true, false, cond, not, ◌&&◌, ◌||◌, List, [], ◌∷◌, length, None, sym, refl, ap, ◌∙◌, arith}
+use Rattle.std.specs.List.{remove}
 use Rattle.std.proofs.lemmas.Bool.{and_parts, and_from, cond-true, cond-false, both_ways}
-use Rattle.std.proofs.lemmas.Bool.Decides.{nat_tests}
-use Rattle.book.specs.Lists.{first, found, or_else, placed, lacking, every, pairwise, head}
+use Rattle.book.specs.Lists.{found, or_else, placed, lacking, every, pairwise}
 
 -- cases on a test
 pub decide : {Z : Type 0} (b : Bool) → (b ≡ true → Z) → (b ≡ false → Z) → Z
@@ -28,13 +27,6 @@ abbrev pub fails : {X : Type 0} → (X → Bool) → X → Bool
 fails p x = not (p x)
 
 module _ {X : Type 0} (p : X → Bool) where
-  pub placed_is : (y : X) (xs : List X) → insert xs (first p xs) y ≡ placed p y xs
-  unfolding placed
-  placed_is y [] = refl
-  placed_is y (x ∷ xs) =
-      elim (p x) as (λ b. insert (x ∷ xs) (cond b 0 (suc (first p xs))) y ≡ cond b (y ∷ (x ∷ xs)) (x ∷ placed p y xs))
-      [ true ↦ refl | false ↦ ap (λ zs. x ∷ zs) (placed_is y xs) ]
-
   pub lacking_none : (xs : List X) → every (fails p) xs ≡ true → lacking p xs ≡ xs
   unfolding lacking
   lacking_none [] h = refl
@@ -55,32 +47,6 @@ module _ {X : Type 0} (p : X → Bool) where
       let a = and_parts (every (λ b. not (p x && p b)) xs) _ h in
       every_weaker (λ b g. sym (ap (λ t. not (t && p b)) e) ∙ g) xs a.0
 
-  pub lacking_is : (xs : List X) → single p xs ≡ true → first p xs < length xs → remove xs (first p xs) ≡ lacking p xs
-  unfolding lacking
-  lacking_is [] s = λ l. absurd (omega arith)
-  lacking_is (x ∷ xs) s =
-      let rest = single_rest x xs s in
-      let a = and_parts (every (λ b. not (p x && p b)) xs) _ s in
-      let step : (b : Bool) → p x ≡ b → cond b 0 (suc (first p xs)) < suc (length xs) → remove (x ∷ xs) (cond b 0 (suc (first p xs))) ≡ cond b (lacking p xs) (x ∷ lacking p xs) =
-      λ b. elim b as (λ b. p x ≡ b → cond b 0 (suc (first p xs)) < suc (length xs) → remove (x ∷ xs) (cond b 0 (suc (first p xs))) ≡ cond b (lacking p xs) (x ∷ lacking p xs))
-      [ true ↦ λ is l. sym (lacking_none xs (rest is)) | false ↦ λ is l. ap (λ zs. x ∷ zs) (lacking_is xs a.1 (omega arith)) ] in
-      step (p x) refl
-
-  pub found_is : (xs : List X) (d : X) → first p xs < length xs → found p xs ≡ Some (get_or xs (first p xs) d)
-  unfolding found
-  found_is [] d = λ l. absurd (omega arith)
-  found_is (x ∷ xs) d =
-      elim (p x) as (λ b. cond b 0 (suc (first p xs)) < suc (length xs) → or_else b x (found p xs) ≡ Some (get_or (x ∷ xs) (cond b 0 (suc (first p xs))) d))
-      [ true ↦ λ l. refl | false ↦ λ l. found_is xs d (omega arith) ]
-
-  pub none_passes : (xs : List X) → length xs ≤ first p xs → every (fails p) xs ≡ true
-  none_passes [] = λ l. refl
-  none_passes (x ∷ xs) =
-      let step : (b : Bool) → p x ≡ b → suc (length xs) ≤ cond b 0 (suc (first p xs)) → (not b && every (fails p) xs) ≡ true =
-      λ b. elim b as (λ b. p x ≡ b → suc (length xs) ≤ cond b 0 (suc (first p xs)) → (not b && every (fails p) xs) ≡ true)
-      [ true ↦ λ is l. absurd (omega arith) | false ↦ λ is l. none_passes xs (omega arith) ] in
-      step (p x) refl
-
   pub every_placed : (q : X → Bool) (y : X) → q y ≡ true → (xs : List X) → every q xs ≡ true → every q (placed p y xs) ≡ true
   unfolding placed
   every_placed q y h [] all = and_from _ _ h refl
@@ -96,14 +62,6 @@ module _ {X : Type 0} (p : X → Bool) where
       let a = and_parts (q x) _ all in
       elim (p x) as (λ b. every q (cond b (lacking p xs) (x ∷ lacking p xs)) ≡ true)
       [ true ↦ every_lacking q xs a.1 | false ↦ and_from _ _ a.0 (every_lacking q xs a.1) ]
-
-  pub pairwise_lacking : (r : X → X → Bool) (xs : List X) → pairwise r xs ≡ true → pairwise r (lacking p xs) ≡ true
-  unfolding lacking
-  pairwise_lacking r [] all = refl
-  pairwise_lacking r (x ∷ xs) all =
-      let a = and_parts (every (r x) xs) _ all in
-      elim (p x) as (λ b. pairwise r (cond b (lacking p xs) (x ∷ lacking p xs)) ≡ true)
-      [ true ↦ pairwise_lacking r xs a.1 | false ↦ and_from _ _ (every_lacking (r x) xs a.0) (pairwise_lacking r xs a.1) ]
 
   -- nothing that passes is left
   pub lacking_fails : (xs : List X) → every (fails p) (lacking p xs) ≡ true
@@ -154,21 +112,20 @@ module _ {X : Type 0} (p : X → Bool) where
       elim (p x) as (λ b. length (cond b (y ∷ (x ∷ xs)) (x ∷ placed p y xs)) ≡ suc (suc (length xs)))
       [ true ↦ refl | false ↦ ap suc (length_placed y xs) ]
 
-pub head_is : {X : Type 0} (n : ℕ) (xs : List X) (d : X) → 0 < n → n ≤ length xs → Some (get_or xs 0 d) ≡ head (take n xs)
-head_is zero xs d pos le = absurd (omega arith)
-head_is (suc n) [] d pos le = absurd (omega arith)
-head_is (suc n) (x ∷ xs) d pos le = refl
+-- without the element at a place
 
--- the first that fails is past the end exactly where every one passes
-pub all_pass : {X : Type 0} (q : X → Bool) (xs : List X) → eqb (first (λ x. not (q x)) xs) (length xs) ≡ every q xs
-all_pass q [] = refl
-all_pass q (x ∷ xs) =
-    let rest = all_pass q xs in
-    elim (q x) as (λ b. eqb (cond (not b) 0 (suc (first (λ x. not (q x)) xs))) (suc (length xs)) ≡ (b && every q xs))
-    [ true ↦ up (first (λ x. not (q x)) xs) (length xs) ∙ rest | false ↦ grind (arith, nat_tests) ]
-  where
-    up : (m n : ℕ) → eqb (suc m) (suc n) ≡ eqb m n
-    up m n = grind (arith, nat_tests)
+pub every_remove : {X : Type 0} (q : X → Bool) (xs : List X) (i : ℕ) → every q xs ≡ true → every q (remove xs i) ≡ true
+every_remove q [] zero all = refl
+every_remove q [] (suc i) all = refl
+every_remove q (x ∷ xs) zero all = (and_parts (q x) _ all).1
+every_remove q (x ∷ xs) (suc i) all = let a = and_parts (q x) _ all in and_from _ _ a.0 (every_remove q xs i a.1)
+
+pub pairwise_remove : {X : Type 0} (r : X → X → Bool) (xs : List X) (i : ℕ) → pairwise r xs ≡ true → pairwise r (remove xs i) ≡ true
+pairwise_remove r [] zero all = refl
+pairwise_remove r [] (suc i) all = refl
+pairwise_remove r (x ∷ xs) zero all = (and_parts (every (r x) xs) _ all).1
+pairwise_remove r (x ∷ xs) (suc i) all =
+    let a = and_parts (every (r x) xs) _ all in and_from _ _ (every_remove (r x) xs i a.0) (pairwise_remove r xs i a.1)
 
 -- every element that does not pass p passes q, so every one that is left does
 pub every_left : {X : Type 0} (p q : X → Bool) (xs : List X) → every (λ x. p x || q x) xs ≡ true → every q (lacking p xs) ≡ true

@@ -1,10 +1,9 @@
-pub mod Shifts
-pub mod Finds
 pub mod Keeps
+pub mod Searches
 pub mod Orders
 pub mod Settles
+pub mod Lowest
 pub mod Sound
-pub mod Steps
 pub mod Turns
 pub mod Ties
 pub mod Tied

@@ -1,13 +1,12 @@
 -- Contracts taken off one row.
-use Rattle.std.proofs.Common.{◌≡◌, ℕ, zero, suc, ◌-◌, ◌<◌, ◌≤◌, Bool, true, false, cond, not, List, [], ◌∷◌, length, get_or, set, sym, refl, ap, ◌∙◌, arith}
+use Rattle.std.proofs.Common.{◌≡◌, ℕ, zero, suc, ◌-◌, ◌<◌, ◌≤◌, Bool, true, false, cond, not, leb, List, [], ◌∷◌, length, get_or, set, Some, None, sym, refl, ap, ◌∙◌, arith}
 use Rattle.std.specs.List.{remove}
-use Rattle.std.proofs.lemmas.Bool.{and_parts, and_from, cond-true, cond-false, both_ways}
+use Rattle.std.proofs.lemmas.Bool.{and_parts, and_from, cond-true, cond-false, both_ways, leb-true, leb-false}
 use Rattle.book.specs.declared.row.Row.{Row}
-use Rattle.book.specs.declared.row.Standing.{Standing}
-use Rattle.book.specs.declared.row.Standing.TheVariants.{Plain, Held, Quote}
-use Rattle.book.specs.Lists.{first, every, pairwise}
-use Rattle.book.specs.Rows.{same_maker, renewed, numbered, resized, put, cut, settle}
+use Rattle.book.specs.Lists.{every, pairwise}
+use Rattle.book.specs.Rows.{numbered, resized, left_of, put, cut, settle}
 use Rattle.book.proofs.Keeps.{decide, fails, every_weaker}
+use Rattle.book.proofs.Searches.{FirstAt, first_next}
 
 pub put_none : (due n : ℕ) (r : Row) (rs : List Row) → n ≡ 0 → put due n r rs ≡ rs
 put_none due zero r rs e = refl
@@ -46,30 +45,35 @@ settle_nothing due n [] = refl
 settle_nothing due n (r ∷ rs) =
     decide (numbered n r) (λ e. cond-true _ _ _ e) (λ e. cond-false _ _ _ e ∙ ap (λ xs. r ∷ xs) (settle_nothing due n rs))
 
--- at the place of the row
-pub settle_gone : (due q n : ℕ) (rs : List Row) (d : Row) → first (numbered n) rs < length rs → 0 < q → (get_or rs (first (numbered n) rs) d).size ≤ q → remove rs (first (numbered n) rs) ≡ settle due q n rs
-unfolding settle
-settle_gone due q n [] d l p h = absurd (omega arith)
-settle_gone due q n (r ∷ rs) d l p h =
-    let at = first (numbered n) in
-    let step : (b : Bool) → cond b 0 (suc (at rs)) < suc (length rs) → (get_or (r ∷ rs) (cond b 0 (suc (at rs))) d).size ≤ q → remove (r ∷ rs) (cond b 0 (suc (at rs))) ≡ cond b (cut due q r rs) (r ∷ settle due q n rs) =
-    λ b. elim b as (λ b. cond b 0 (suc (at rs)) < suc (length rs) → (get_or (r ∷ rs) (cond b 0 (suc (at rs))) d).size ≤ q → remove (r ∷ rs) (cond b 0 (suc (at rs))) ≡ cond b (cut due q r rs) (r ∷ settle due q n rs)) [
-      | true ↦ λ l h. sym (cut_all due q r rs p h)
-      | false ↦ λ l h. ap (λ xs. r ∷ xs) (settle_gone due q n rs d (omega arith) p h)
-    ] in
-    step (numbered n r) l h
+-- at the place of the row: it goes if nothing is left of it, and else what is left takes its place
 
-pub settle_part : (due q n : ℕ) (rs : List Row) (d : Row) → first (numbered n) rs < length rs → 0 < q → q < (get_or rs (first (numbered n) rs) d).size → set rs (first (numbered n) rs) (resized due ((get_or rs (first (numbered n) rs) d).size - q) (get_or rs (first (numbered n) rs) d)) ≡ settle due q n rs
-unfolding settle
-settle_part due q n [] d l p h = absurd (omega arith)
-settle_part due q n (r ∷ rs) d l p h =
-    let at = first (numbered n) in
-    let step : (b : Bool) → cond b 0 (suc (at rs)) < suc (length rs) → q < (get_or (r ∷ rs) (cond b 0 (suc (at rs))) d).size → set (r ∷ rs) (cond b 0 (suc (at rs))) (resized due ((get_or (r ∷ rs) (cond b 0 (suc (at rs))) d).size - q) (get_or (r ∷ rs) (cond b 0 (suc (at rs))) d)) ≡ cond b (cut due q r rs) (r ∷ settle due q n rs) =
-    λ b. elim b as (λ b. cond b 0 (suc (at rs)) < suc (length rs) → q < (get_or (r ∷ rs) (cond b 0 (suc (at rs))) d).size → set (r ∷ rs) (cond b 0 (suc (at rs))) (resized due ((get_or (r ∷ rs) (cond b 0 (suc (at rs))) d).size - q) (get_or (r ∷ rs) (cond b 0 (suc (at rs))) d)) ≡ cond b (cut due q r rs) (r ∷ settle due q n rs)) [
-      | true ↦ λ l h. sym (cut_part due q r rs p h)
-      | false ↦ λ l h. ap (λ xs. r ∷ xs) (settle_part due q n rs d (omega arith) p h)
-    ] in
-    step (numbered n r) l h
+gone_is : (due q : ℕ) (r : Row) → None ≡ left_of due q r → r.size ≤ q
+gone_is due q r e =
+    decide (leb r.size q) (λ t. leb-true r.size q t)
+    (λ t. let h : None ≡ Some (resized due (r.size - q) r) = e ∙ cond-false _ _ _ t in cc)
+
+left_is : (due q : ℕ) (r x : Row) → Some x ≡ left_of due q r → (q < r.size) × (x ≡ resized due (r.size - q) r)
+left_is due q r x e =
+    decide (leb r.size q)
+    (λ t. let h : Some x ≡ None = e ∙ cond-true _ _ _ t in cc)
+    (λ t. let h : Some x ≡ Some (resized due (r.size - q) r) = e ∙ cond-false _ _ _ t in (leb-false r.size q t, cc))
+
+pub settle_gone : (due q n : ℕ) (rs : List Row) (i : ℕ) (d : Row) → 0 < q → FirstAt (numbered n) rs i → None ≡ left_of due q (get_or rs i d) → remove rs i ≡ settle due q n rs
+settle_gone due q n [] i d p f h = absurd (omega (arith, f.within))
+settle_gone due q n (r ∷ rs) zero d p f h =
+    sym (settle_here due q n r rs (f.here d) ∙ cut_all due q r rs p (gone_is due q r h))
+settle_gone due q n (r ∷ rs) (suc i) d p f h =
+    let k = first_next (numbered n) r rs i f in
+    ap (λ xs. r ∷ xs) (settle_gone due q n rs i d p k.1 h) ∙ sym (settle_past due q n r rs k.0)
+
+pub settle_left : (due q n : ℕ) (rs : List Row) (i : ℕ) (d x : Row) → 0 < q → FirstAt (numbered n) rs i → Some x ≡ left_of due q (get_or rs i d) → set rs i x ≡ settle due q n rs
+settle_left due q n [] i d x p f h = absurd (omega (arith, f.within))
+settle_left due q n (r ∷ rs) zero d x p f h =
+    let l = left_is due q r x h in
+    ap (λ (y : Row). y ∷ rs) l.1 ∙ sym (settle_here due q n r rs (f.here d) ∙ cut_part due q r rs p l.0)
+settle_left due q n (r ∷ rs) (suc i) d x p f h =
+    let k = first_next (numbered n) r rs i f in
+    ap (λ xs. r ∷ xs) (settle_left due q n rs i d x p k.1 h) ∙ sym (settle_past due q n r rs k.0)
 
 -- ---- what it keeps
 
@@ -107,21 +111,6 @@ pairwise_settle f due q n right left (r ∷ rs) all =
       | true ↦ pairwise_cut f due q r (λ k x h. left r x k h) rs a.0 a.1
       | false ↦ and_from _ _ (every_settle (f r) due q n (λ y k h. right r y k h) rs a.0) (pairwise_settle f due q n right left rs a.1)
     ]
-
-pub maker_left : (due : ℕ) (s t : Standing) → same_maker (renewed due s) t ≡ same_maker s t
-maker_left due Plain t = refl
-maker_left due (Held c d) t = refl
-maker_left due (Quote m) t = refl
-
-pub maker_right : (due : ℕ) (s t : Standing) → same_maker s (renewed due t) ≡ same_maker s t
-maker_right due s Plain = refl
-maker_right due s (Held c d) = same s
-  where
-    same : (s : Standing) → same_maker s (Held c due) ≡ same_maker s (Held c d)
-    same Plain = refl
-    same (Held c' d') = refl
-    same (Quote m) = refl
-maker_right due s (Quote m) = refl
 
 pub length_settle : (due q n : ℕ) (rs : List Row) → length (settle due q n rs) ≤ length rs
 unfolding settle

@@ -1,20 +1,18 @@
 -- How a taker goes down the rows: one trade, the end, what adds up, and the rule.
-use Rattle.std.proofs.Common.{◌≡◌, ℕ, zero, suc, ◌+◌, ◌-◌, ◌<◌, ◌≤◌, min, Bool, true, false, not, ◌&&◌, ◌||◌, eqb, ltb, leb, ◌⊎◌, List, [], ◌∷◌, ◌++◌, reverse, length, Some, None, Option, sym, refl, ap, ◌∙◌, subst, inl, inr, ⊎_elim, arith}
+use Rattle.std.proofs.Common.{◌≡◌, ℕ, zero, suc, ◌+◌, ◌-◌, ◌<◌, ◌≤◌, min, Bool, true, false, not, ◌&&◌, eqb, leb, ◌⊎◌, List, [], ◌∷◌, ◌++◌, reverse, length, Some, None, Option, sym, refl, ap, ◌∙◌, subst, inl, inr, ⊎_elim, arith}
 use Rattle.std.specs.List.{AllByRecursion}
 use Rattle.std.proofs.lemmas.List.{reverse-append, reverse-reverse, append_assoc}
 use Rattle.std.proofs.lemmas.Bool.{and_parts, and_left, cond-true, cond-false, cond_both, both_ways, ltb-true, eq-eqb, leb-true, leb-false}
 use Rattle.std.proofs.lemmas.Bool.Decides.{nat_tests}
-use Rattle.values.specs.declared.side.Side.{Side}
-use Rattle.values.specs.declared.side.Side.TheVariants.{Buy, Sell}
 use Rattle.values.specs.Sides.{opposite, no_more_aggressive}
 use Rattle.rolls.specs.Rolls.{room, Gains}
 use Rattle.rolls.specs.declared.roll.Roll.{Roll}
-use Rattle.rolls.proofs.Gaining.{gains_nothing, gains_then}
+use Rattle.rolls.proofs.Gaining.{gains_then}
 use Rattle.book.specs.declared.row.Row.{Row}
 use Rattle.book.specs.declared.row.Taker.{Taker}
 use Rattle.book.specs.declared.row.Trade.{Trade}
 use Rattle.book.specs.Lists.{found, or_else, every, pairwise}
-use Rattle.book.specs.Rows.{Sound, same_side, bid_first, better, precedes, agrees, sized, numbered, stands_at, best_of, put, cut, settle}
+use Rattle.book.specs.Rows.{Sound, better, precedes, agrees, sized, numbered, stands_at, best_of, put, cut, settle}
 use Rattle.book.specs.Trades.{trade_with}
 use Rattle.book.specs.Taking.{in_reach, amount, note, Fill, take, Has, BestOf, NoneInReach, Takes, done, trade, traded, Fair, Took}
 use Rattle.book.proofs.Keeps.{decide, every_weaker, found_none}
@@ -28,77 +26,41 @@ fill n rs j = record { left = n; rows = rs; trades = j }
 
 -- ---- rows in reach
 
-abbrev goes : ℕ → Side → ℕ → ℕ → ℕ → Side → ℕ → ℕ → Bool
-goes e s p n e' s' p' n' = ltb e e' || (eqb e e' && (bid_first s s' || (same_side s s' && (not (no_more_aggressive s p p') || (eqb p p' && ltb n n')))))
-
-abbrev met : ℕ → Side → ℕ → ℕ → Side → ℕ → Bool
-met x side reach e s p = eqb e x && (same_side s (opposite side) && no_more_aggressive side p reach)
-
-met_after : (side s s' : Side) (x reach e e' p p' n n' : ℕ) → goes e s p n e' s' p' n' ≡ true → (eqb e x && same_side s (opposite side)) ≡ true → met x side reach e s p ≡ false → met x side reach e' s' p' ≡ false
-met_after Buy Buy Buy x reach e e' p p' n n' h k l = grind (arith, nat_tests)
-met_after Buy Buy Sell x reach e e' p p' n n' h k l = grind (arith, nat_tests)
-met_after Buy Sell Buy x reach e e' p p' n n' h k l = grind (arith, nat_tests)
-met_after Buy Sell Sell x reach e e' p p' n n' h k l = grind (arith, nat_tests)
-met_after Sell Buy Buy x reach e e' p p' n n' h k l = grind (arith, nat_tests)
-met_after Sell Buy Sell x reach e e' p p' n n' h k l = grind (arith, nat_tests)
-met_after Sell Sell Buy x reach e e' p p' n n' h k l = grind (arith, nat_tests)
-met_after Sell Sell Sell x reach e e' p p' n n' h k l = grind (arith, nat_tests)
-
 -- after the best row of the contra side, where that is out of reach, every row is
 reach_after : (t : Taker) (a b : Row) → precedes a b ≡ true → stands_at t.series (opposite t.side) a ≡ true → in_reach t a ≡ false → in_reach t b ≡ false
-reach_after t a b h k l = met_after t.side a.side b.side t.series t.reach a.series b.series a.display b.display a.number b.number h k l
-
-met_better : (side s s' : Side) (x reach e e' p p' n n' : ℕ) → goes e s p n e' s' p' n' ≡ true → met x side reach e s p ≡ true → met x side reach e' s' p' ≡ true → (not (no_more_aggressive s p p') || (eqb p p' && ltb n n')) ≡ true
-met_better Buy Buy Buy x reach e e' p p' n n' h k l = grind (arith, nat_tests)
-met_better Buy Buy Sell x reach e e' p p' n n' h k l = grind (arith, nat_tests)
-met_better Buy Sell Buy x reach e e' p p' n n' h k l = grind (arith, nat_tests)
-met_better Buy Sell Sell x reach e e' p p' n n' h k l = grind (arith, nat_tests)
-met_better Sell Buy Buy x reach e e' p p' n n' h k l = grind (arith, nat_tests)
-met_better Sell Buy Sell x reach e e' p p' n n' h k l = grind (arith, nat_tests)
-met_better Sell Sell Buy x reach e e' p p' n n' h k l = grind (arith, nat_tests)
-met_better Sell Sell Sell x reach e e' p p' n n' h k l = grind (arith, nat_tests)
+reach_after t a b h k l = grind (arith, nat_tests)
 
 reach_better : (t : Taker) (a b : Row) → precedes a b ≡ true → in_reach t a ≡ true → in_reach t b ≡ true → better a b ≡ true
-reach_better t a b h k l = met_better t.side a.side b.side t.series t.reach a.series b.series a.display b.display a.number b.number h k l
-
-split : (x y z : Bool) → (x && (y && z)) ≡ ((x && y) && z)
-split true y z = refl
-split false y z = refl
+reach_better t a b h k l = grind (arith, nat_tests)
 
 -- in reach is on the contra side, at a price within the reach
 pub reach_is : (t : Taker) (r : Row) → in_reach t r ≡ (stands_at t.series (opposite t.side) r && no_more_aggressive t.side r.display t.reach)
-reach_is t r = split (eqb r.series t.series) (same_side r.side (opposite t.side)) (no_more_aggressive t.side r.display t.reach)
+reach_is t r = grind (arith, nat_tests)
 
 reach_not : (t : Taker) (r : Row) → stands_at t.series (opposite t.side) r ≡ false → in_reach t r ≡ false
 reach_not t r h = reach_is t r ∙ and_left _ _ h
 
--- the first row in reach is the best row of the contra side, or there is none
-pub reach_best : (t : Taker) (rs : List Row) (b : Row) → pairwise precedes rs ≡ true → best_of t.series (opposite t.side) rs ≡ Some b → found (in_reach t) rs ≡ or_else (no_more_aggressive t.side b.display t.reach) b None
+abbrev pub if_reached : Taker → Option Row → Option Row
+if_reached t None = None
+if_reached t (Some r) = or_else (no_more_aggressive t.side r.display t.reach) r None
+
+-- the first row in reach is the best row of the contra side, if that is within the reach
+pub reach_best : (t : Taker) (rs : List Row) (o : Option Row) → pairwise precedes rs ≡ true → best_of t.series (opposite t.side) rs ≡ o → found (in_reach t) rs ≡ if_reached t o
 unfolding found
-reach_best t [] b all e = let z : ◌≡◌ {A = ℕ} 0 1 = cc in absurd (omega arith)
-reach_best t (x ∷ xs) b all e =
+reach_best t [] o all e = ap (if_reached t) e
+reach_best t (x ∷ xs) o all e =
     let st = stands_at t.series (opposite t.side) in
     let a = and_parts (every (precedes x) xs) _ all in
     decide (st x)
     (λ s.
-    let h : or_else true x (found st xs) ≡ Some b = sym (ap (λ c. or_else c x (found st xs)) s) ∙ e in
-    let is : x ≡ b = cc in
+    let is : Some x ≡ o = sym (ap (λ c. or_else c x (found st xs)) s) ∙ e in
     let near : in_reach t x ≡ no_more_aggressive t.side x.display t.reach = reach_is t x ∙ ap (λ c. c && no_more_aggressive t.side x.display t.reach) s in
     let here : or_else (in_reach t x) x (found (in_reach t) xs) ≡ or_else (in_reach t x) x None =
     decide (in_reach t x)
     (λ r. ap (λ c. or_else c x (found (in_reach t) xs)) r ∙ sym (ap (λ c. or_else c x None) r))
     (λ r. ap (or_else (in_reach t x) x) (found_none (in_reach t) xs (every_weaker (λ y k. ap not (reach_after t x y k s r)) xs a.0))) in
-    here ∙ ap (λ c. or_else c x None) near ∙ ap (λ (r : Row). or_else (no_more_aggressive t.side r.display t.reach) r None) is)
-    (λ s. ap (λ c. or_else c x (found (in_reach t) xs)) (reach_not t x s) ∙ reach_best t xs b a.1 (sym (ap (λ c. or_else c x (found st xs)) s) ∙ e))
-
-pub reach_none : (t : Taker) (rs : List Row) → best_of t.series (opposite t.side) rs ≡ None → found (in_reach t) rs ≡ None
-unfolding found
-reach_none t [] e = refl
-reach_none t (x ∷ xs) e =
-    let st = stands_at t.series (opposite t.side) in
-    decide (st x)
-    (λ s. let h : or_else true x (found st xs) ≡ None = sym (ap (λ c. or_else c x (found st xs)) s) ∙ e in let z : ◌≡◌ {A = ℕ} 0 1 = cc in absurd (omega arith))
-    (λ s. ap (λ c. or_else c x (found (in_reach t) xs)) (reach_not t x s) ∙ reach_none t xs (sym (ap (λ c. or_else c x (found st xs)) s) ∙ e))
+    here ∙ ap (λ c. or_else c x None) near ∙ ap (if_reached t) is)
+    (λ s. ap (λ c. or_else c x (found (in_reach t) xs)) (reach_not t x s) ∙ reach_best t xs o a.1 (sym (ap (λ c. or_else c x (found st xs)) s) ∙ e))
 
 -- ---- the definition, step by step
 
@@ -139,7 +101,7 @@ unfolding take found
 take_none due t n [] j e = refl
 take_none due t n (r ∷ rs) j e =
     decide (in_reach t r)
-    (λ s. let h : or_else true r (found (in_reach t) rs) ≡ None = sym (ap (λ c. or_else c r (found (in_reach t) rs)) s) ∙ e in let z : ◌≡◌ {A = ℕ} 0 1 = cc in absurd (omega arith))
+    (λ s. let h : or_else true r (found (in_reach t) rs) ≡ None = sym (ap (λ c. or_else c r (found (in_reach t) rs)) s) ∙ e in cc)
     (λ s. take_past due t n r rs j (amount_out t n r s) ∙ ap (before r) (take_none due t n rs j (sym (ap (λ c. or_else c r (found (in_reach t) rs)) s) ∙ e)))
 
 note_some : (q : ℕ) (e : Trade) (j : List Trade) → 0 < q → note q e j ≡ e ∷ j
@@ -153,7 +115,7 @@ self n = eq-eqb n n refl
 pub take_step : (due : ℕ) (t : Taker) (n : ℕ) (rs : List Row) (j : List Trade) (b : Row) → 0 < n → pairwise agrees rs ≡ true → every sized rs ≡ true → found (in_reach t) rs ≡ Some b
     → take due t n rs j ≡ take due t (n - min n b.size) (settle due (min n b.size) b.number rs) (trade_with t (min n b.size) b ∷ j)
 unfolding found
-take_step due t n [] j b p all sizes e = let z : ◌≡◌ {A = ℕ} 0 1 = cc in absurd (omega arith)
+take_step due t n [] j b p all sizes e = cc
 take_step due t n (x ∷ xs) j b p all sizes e =
     let a = and_parts (every (agrees x) xs) _ all in
     let z = and_parts (sized x) _ sizes in
@@ -319,12 +281,12 @@ unfolding found
 none_in_reach t [] e q h = absurd h
 none_in_reach t (x ∷ xs) e q h =
     decide (in_reach t x)
-    (λ s. let k : or_else true x (found (in_reach t) xs) ≡ None = sym (ap (λ c. or_else c x (found (in_reach t) xs)) s) ∙ e in let z : ◌≡◌ {A = ℕ} 0 1 = cc in absurd (omega arith))
+    (λ s. let k : or_else true x (found (in_reach t) xs) ≡ None = sym (ap (λ c. or_else c x (found (in_reach t) xs)) s) ∙ e in cc)
     (λ s. ⊎_elim (λ (i : q ≡ x). subst (λ (y : Row). in_reach t y ≡ false) (sym i) s) (λ (i : Has q xs). none_in_reach t xs (sym (ap (λ c. or_else c x (found (in_reach t) xs)) s) ∙ e) q i) h)
 
 best_of_lem : (t : Taker) (rs : List Row) (b : Row) → pairwise precedes rs ≡ true → found (in_reach t) rs ≡ Some b → BestOf t b rs
 unfolding found
-best_of_lem t [] b all e = let z : ◌≡◌ {A = ℕ} 0 1 = cc in absurd (omega arith)
+best_of_lem t [] b all e = cc
 best_of_lem t (x ∷ xs) b all e =
     let a = and_parts (every (precedes x) xs) _ all in
     decide (in_reach t x)
@@ -368,7 +330,7 @@ take_follows due t n rs s = follows n due t n rs [] (omega arith) s
 -- a row all of which trades leaves one row less
 gone_less : (due q : ℕ) (b : Row) (rs : List Row) (t : Taker) → 0 < q → b.size ≤ q → pairwise agrees rs ≡ true → found (in_reach t) rs ≡ Some b → suc (length (settle due q b.number rs)) ≡ length rs
 unfolding found
-gone_less due q b [] t p l all e = let z : ◌≡◌ {A = ℕ} 0 1 = cc in absurd (omega arith)
+gone_less due q b [] t p l all e = cc
 gone_less due q b (x ∷ xs) t p l all e =
     let a = and_parts (every (agrees x) xs) _ all in
     decide (in_reach t x)
@@ -390,9 +352,6 @@ pub record Underway (due : ℕ) (t : Taker) (n₀ : ℕ) (rs₀ : List Row) (rol
   pub gains : Gains roll₀ roll added
   pub same : take due t n₀ rs₀ [] ≡ take due t n rs (reverse added)
   pub places : 0 < n → length rs ≤ room roll
-
-pub underway_start : (due : ℕ) (t : Taker) (n : ℕ) (rs : List Row) (roll : Roll Trade) → length rs ≤ room roll → Underway due t n rs roll n rs roll
-underway_start due t n rs roll h = record { added = []; gains = gains_nothing roll; same = refl; places = λ p. h }
 
 module _ (due : ℕ) (t : Taker) (n₀ : ℕ) (rs₀ : List Row) (roll₀ : Roll Trade) (n : ℕ) (rs : List Row) (roll : Roll Trade) (u : Underway due t n₀ rs₀ roll₀ n rs roll) where
   pub underway_end : Sound rs₀ → take due t n rs (reverse u.added) ≡ fill n rs (reverse u.added) → Took due t n₀ n rs₀ rs roll₀ roll

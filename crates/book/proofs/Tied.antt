@@ -63,7 +63,7 @@ unfolding found
 none_there n [] e = refl
 none_there n (x ∷ xs) e =
     decide (numbered n x)
-    (λ t. let h : None ≡ Some x = e ∙ ap (λ b. or_else b x (found (numbered n) xs)) t in let z : ◌≡◌ {A = ℕ} 0 1 = cc in absurd (omega arith))
+    (λ t. let h : None ≡ Some x = e ∙ ap (λ b. or_else b x (found (numbered n) xs)) t in cc)
     (λ t. and_from _ _ (ap not t) (none_there n xs (e ∙ ap (λ b. or_else b x (found (numbered n) xs)) t)))
 
 pub absent_without : (n : ℕ) (rs : List Row) → None ≡ row_of n rs → without n rs ≡ rs
@@ -82,7 +82,7 @@ part_unused n r rs h f es t =
 
 pub found_passes : {X : Type 0} (p : X → Bool) (xs : List X) (x : X) → found p xs ≡ Some x → p x ≡ true
 unfolding found
-found_passes p [] x e = let z : ◌≡◌ {A = ℕ} 0 1 = cc in absurd (omega arith)
+found_passes p [] x e = cc
 found_passes p (y ∷ ys) x e =
     decide (p y)
     (λ t. let h : or_else true y (found p ys) ≡ Some x = sym (ap (λ b. or_else b y (found p ys)) t) ∙ e in let s : y ≡ x = cc in subst (λ z. p z ≡ true) s t)
@@ -90,7 +90,7 @@ found_passes p (y ∷ ys) x e =
 
 pub found_every : {X : Type 0} (q p : X → Bool) (xs : List X) (x : X) → every q xs ≡ true → found p xs ≡ Some x → q x ≡ true
 unfolding found
-found_every q p [] x all e = let z : ◌≡◌ {A = ℕ} 0 1 = cc in absurd (omega arith)
+found_every q p [] x all e = cc
 found_every q p (y ∷ ys) x all e =
     let a = and_parts (q y) _ all in
     decide (p y)
@@ -99,7 +99,7 @@ found_every q p (y ∷ ys) x all e =
 
 pub found_less : {X : Type 0} (p : X → Bool) (xs : List X) (x : X) → found p xs ≡ Some x → length (lacking p xs) < length xs
 unfolding found lacking
-found_less p [] x e = let z : ◌≡◌ {A = ℕ} 0 1 = cc in absurd (omega arith)
+found_less p [] x e = cc
 found_less p (y ∷ ys) x e =
     decide (p y)
     (λ t. omega (arith, ap length (cond-true (p y) (lacking p ys) (y ∷ lacking p ys) t), length_lacking p ys))

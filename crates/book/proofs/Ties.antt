@@ -205,10 +205,6 @@ unlisted_past Plain t m n h ds k = refl
 unlisted_past (Held c d) t m n h ds k = listed_lacking t m n h ds k
 unlisted_past (Quote x) t m n h ds k = refl
 
-found_nil : (n : ℕ) (r : Row) → found (numbered n) [] ≡ Some r → ⊥
-unfolding found
-found_nil n r f = let z : ◌≡◌ {A = ℕ} 0 1 = cc in omega arith
-
 found_head : (n : ℕ) (x r : Row) (rs : List Row) → numbered n x ≡ true → found (numbered n) (x ∷ rs) ≡ Some r → x ≡ r
 unfolding found
 found_head n x r rs e h = let z : or_else true x (found (numbered n) rs) ≡ Some r = sym (ap (λ t. or_else t x (found (numbered n) rs)) e) ∙ h in cc
@@ -226,8 +222,8 @@ no_other n x rs e h = every_weaker (λ y g. ap not (other x.number y.number e (a
 
 -- the entry of a row that goes
 pub due_gone : (n : ℕ) (r : Row) (rs : List Row) → pairwise agrees rs ≡ true → found (numbered n) rs ≡ Some r → due_list (without n rs) ≡ unlisted r.standing n (due_list rs)
-unfolding lacking due_list
-due_gone n r [] h f = absurd (found_nil n r f)
+unfolding found lacking due_list
+due_gone n r [] h f = cc
 due_gone n r (x ∷ rs) h f =
     let a = and_parts (every (agrees x) rs) _ h in
     decide (numbered n x)
@@ -251,8 +247,8 @@ settle_all due q n r (x ∷ rs) h f p l =
 
 -- the entry of a row part of which is traded
 pub due_part : (due q n : ℕ) (r : Row) (rs : List Row) → pairwise agrees rs ≡ true → found (numbered n) rs ≡ Some r → 0 < q → q < r.size → due_list (settle due q n rs) ≡ listed (renewed due r.standing) n (unlisted r.standing n (due_list rs))
-unfolding settle due_list
-due_part due q n r [] h f p l = absurd (found_nil n r f)
+unfolding found settle due_list
+due_part due q n r [] h f p l = cc
 due_part due q n r (x ∷ rs) h f p l =
     let a = and_parts (every (agrees x) rs) _ h in
     decide (numbered n x)

@@ -1,10 +1,5 @@
--- Lists of anything: searches, places and pairs, each by a test.
-use Rattle.std.specs.Prelude.{ℕ, suc, Bool, true, false, cond, not, ◌&&◌, ◌||◌, List, [], ◌∷◌, Some, None, Option}
-
--- the place of the first element that passes, or the length of the list
-abbrev pub first : {X : Type 0} → (X → Bool) → List X → ℕ
-first p [] = 0
-first p (x ∷ xs) = cond (p x) 0 (suc (first p xs))
+-- Lists of anything: searches, insertions and pairs, each by a test.
+use Rattle.std.specs.Prelude.{Bool, true, false, cond, ◌&&◌, List, [], ◌∷◌, Some, None, Option}
 
 abbrev pub or_else : {X : Type 0} → Bool → X → Option X → Option X
 or_else true x o = Some x
@@ -33,10 +28,6 @@ every p (x ∷ xs) = p x && every p xs
 abbrev pub pairwise : {X : Type 0} → (X → X → Bool) → List X → Bool
 pairwise r [] = true
 pairwise r (x ∷ xs) = every (r x) xs && pairwise r xs
-
--- once an element passes, each later one does
-abbrev pub parted : {X : Type 0} → (X → Bool) → List X → Bool
-parted p xs = pairwise (λ a b. not (p a) || p b) xs
 
 -- the first element
 abbrev pub head : {X : Type 0} → List X → Option X

@@ -5,5 +5,6 @@
 mod awaiting;
 pub mod book;
 pub mod places;
+mod ranking;
 mod resting;
 pub mod row;

@@ -10,7 +10,9 @@ pub mod keeping;
 pub const PLACES: usize = 256;
 
 // The first `count` slots are the rows: by series, bids before offers, the better row first. Numbers are unique, no bid is at or above
-// an offer of its series, a maker has at most one quote on a side of a series, and no row is without size.
+// an offer of its series, a maker has at most one quote on a side of a series, and no row is without size. An array, since the market
+// takes no memory from the heap.
+// An array and a count, since there is no heap; beside `Dues`, since a generic struct has no array of a type parameter.
 #[derive(Drop)]
 pub struct Rows {
     slots: [Row; PLACES],

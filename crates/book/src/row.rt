@@ -1,7 +1,7 @@
 // What rests in a book, and what comes of trading and withdrawing it.
 ghost use Rattle.std.specs.Prelude.{◌≡◌};
 ghost use Rattle.values.specs.Sides.{no_more_aggressive};
-ghost use Rattle.book.specs.Rows.{left_of, once_moved, renewed, withdrawal_of};
+ghost use Rattle.book.specs.Rows.{left_of, moved_to, once_moved, renewed, withdrawal_of};
 ghost use Rattle.book.specs.Trades.{trade_with};
 
 use values::side::{Price, Side};
@@ -30,8 +30,8 @@ pub struct Row {
     pub standing: Standing,
 }
 
-// The moment at which the held order with a number moves.
-#[derive(Clone, Copy)]
+// The moment at which the held order with a number moves: the sooner entry is the lesser, then the lower number.
+#[derive(Clone, Copy, PartialEq, Eq, PartialOrd, Ord)]
 pub struct Due {
     pub moment: u32,
     pub number: u32,
@@ -68,14 +68,21 @@ impl Row {
     pub fn after_trade(self, contracts: u32, due: u32) -> Option<Row>
         ensures { result ≡ left_of due contracts self }
     {
-        if self.size <= contracts {
-            None
-        } else {
-            Some(Row {
-                size: self.size - contracts,
-                standing: self.standing.renew(due),
-                ..self
-            })
+        (contracts < self.size).then(|| Row {
+            size: self.size - contracts,
+            standing: self.standing.renew(due),
+            ..self
+        })
+    }
+
+    // The row displayed at another price: a held order is due next at `due`, or becomes plain at its limit.
+    pub(crate) fn moved_to(self, display: Price, due: u32) -> Row
+        ensures { result ≡ moved_to display due self }
+    {
+        Row {
+            display,
+            standing: self.standing.move_on(display == self.limit, due),
+            ..self
         }
     }
 
@@ -119,7 +126,7 @@ impl Standing {
     {
         match self {
             Standing::Held { collar, due: _ } => Standing::Held { collar, due },
-            Standing::Plain | Standing::Quote { maker: _ } => self,
+            Standing::Plain | Standing::Quote { .. } => self,
         }
     }
 
@@ -128,14 +135,8 @@ impl Standing {
         ensures { result ≡ once_moved at_limit due self }
     {
         match self {
-            Standing::Held { collar, due: _ } => {
-                if at_limit {
-                    Standing::Plain
-                } else {
-                    Standing::Held { collar, due }
-                }
-            }
-            Standing::Plain | Standing::Quote { maker: _ } => self,
+            Standing::Held { .. } if at_limit => Standing::Plain,
+            _ => self.renew(due),
         }
     }
 }

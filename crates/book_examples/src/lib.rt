@@ -46,11 +46,7 @@ pub fn take(
     due: u32,
     trades: &mut Roll<Trade>,
 ) -> Option<u32> {
-    if book.len() <= trades.free() {
-        Some(book.take(taker, size, due, trades))
-    } else {
-        None
-    }
+    (book.len() <= trades.free()).then(|| book.take(taker, size, due, trades))
 }
 
 // The quotes of a maker.
@@ -61,10 +57,7 @@ impl Wanted<Row> for QuotesOf {
     ghost wants = { λ s r. same_maker (Quote s.0) r.standing };
 
     fn wants(&self, item: Row) -> bool {
-        match item.standing {
-            Standing::Quote { maker } => self.0 == maker,
-            Standing::Plain | Standing::Held { collar: _, due: _ } => false,
-        }
+        matches!(item.standing, Standing::Quote { maker } if maker == self.0)
     }
 }
 
@@ -206,10 +199,8 @@ mod tests {
     #[test]
     fn fills(rt: HostRuntime) {
         let mut book = Book::new();
-        let mut number = 1u32;
-        for _ in 0..256 {
+        for number in 1..=256 {
             assert!(rt; place(&mut book, plain(number, Side::Buy, 100, 1)));
-            number = number.saturating_add(1);
         }
         assert!(rt; !place(&mut book, plain(900, Side::Buy, 100, 1)));
         assert!(rt; book.withdraw(17).is_some());

@@ -65,11 +65,12 @@ pub extern "C" fn book_rounds(rest: u32, spread: u8, rounds: u32) -> u32 {
     let mut seed = 12345u64;
     let mut next = 1;
     let mut resting = [0u32; 256];
-    for k in 0..rest {
-        resting[k as usize] = next;
+    for place in &mut resting[..rest as usize] {
+        *place = next;
         next = add(&mut book, &mut seed, spread, next);
     }
     let mut withdrawn = 0u32;
+    // so many turns; nothing is indexed
     for _ in 0..rounds {
         let k = (draw(&mut seed) % rest) as usize;
         if book.withdraw(resting[k]).is_some() {

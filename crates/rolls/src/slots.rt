@@ -1,4 +1,4 @@
-// Rows that a caller lent, and how many of them are filled.
+// Rows that a caller lent, and how many of them are filled: the market takes no memory of its own for them.
 ghost use Rattle.std.specs.Prelude.{◌≡◌, ◌<◌, ◌≤◌, [], ◌∷◌, length, slice_set};
 ghost use Rattle.rolls.specs.Slots.{held, Extends};
 
@@ -32,6 +32,6 @@ impl<'a, T: Copy> Slots<'a, T> {
         requires { self.now.count ≤ length self.now.lent.now }
         ensures { result.now ≡ held self.now }
     {
-        &self.lent[0..self.count]
+        &self.lent[..self.count]
     }
 }

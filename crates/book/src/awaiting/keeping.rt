@@ -1,43 +1,20 @@
 // What is asked of the due list, and done to it.
 ghost use Rattle.std.specs.Prelude.{◌≡◌, ◌<◌, ◌≤◌, true, [], length};
+ghost use Rattle.std.specs.List.{position};
 ghost use Rattle.book.specs.Lists.{every, head, lacking};
-ghost use Rattle.book.specs.Dues.{distinct, due_at, entered, listed, owed, sooner, unlisted};
+ghost use Rattle.book.specs.Dues.{distinct, due_at, entered, listed, owed, unlisted};
 ghost use Rattle.book.specs.Listings.{waiting};
 
 use super::Dues;
-use crate::places::{Wanted, close_place, first_place, open_place};
+use crate::places::{close_place, open_place};
 use crate::resting::PLACES;
 use crate::row::{Due, Standing};
-
-// The entries that an entry comes before.
-#[derive(Clone, Copy)]
-struct Later(Due);
-
-impl Wanted<Due> for Later {
-    ghost wants = { λ s d. sooner s.0 d };
-
-    fn wants(&self, item: Due) -> bool {
-        let due = self.0;
-        due.moment < item.moment || due.moment == item.moment && due.number < item.number
-    }
-}
-
-// The entry of the order with a number.
-#[derive(Clone, Copy)]
-struct Owed(u32);
-
-impl Wanted<Due> for Owed {
-    ghost wants = { λ s d. owed s.0 d };
-
-    fn wants(&self, item: Due) -> bool {
-        item.number == self.0
-    }
-}
 
 impl Dues {
     pub fn new() -> Dues
         ensures { waiting result ≡ [] }
     {
+        // what stands in a slot that no entry takes
         let none = Due {
             moment: 0,
             number: 0,
@@ -48,15 +25,27 @@ impl Dues {
         }
     }
 
+    // The entries, the soonest first.
+    fn entries(&self) -> &[Due]
+        ensures { result.now ≡ waiting self.now }
+    {
+        &self.slots[..self.count]
+    }
+
+    // The place of the entry of the order with a number.
+    fn place_of(&self, number: u32) -> Option<usize>
+        ensures { result ≡ position (owed number) (waiting self.now) }
+    {
+        self.entries()
+            .iter()
+            .position(|entry| entry.number == number)
+    }
+
     // The entry that is due first.
     pub fn first(&self) -> Option<Due>
         ensures { result ≡ head (waiting self.now) }
     {
-        if self.count == 0 {
-            None
-        } else {
-            Some(self.slots[0])
-        }
+        self.entries().first().copied()
     }
 
     // Puts an entry at its turn.
@@ -65,8 +54,8 @@ impl Dues {
         requires unused { every (distinct due) (waiting self.old) ≡ true }
         ensures { waiting self.new ≡ entered due (waiting self.old) }
     {
-        let at = first_place(&self.slots, self.count, &Later(due));
-        open_place(&mut self.slots, self.count, at, due);
+        let at = self.entries().partition_point(|entry| *entry < due);
+        open_place(&mut self.slots, at..self.count, due);
         self.count += 1;
     }
 
@@ -74,9 +63,8 @@ impl Dues {
     pub fn remove(&mut self, number: u32)
         ensures { waiting self.new ≡ lacking (owed number) (waiting self.old) }
     {
-        let at = first_place(&self.slots, self.count, &Owed(number));
-        if at < self.count {
-            close_place(&mut self.slots, self.count, at);
+        if let Some(at) = self.place_of(number) {
+            close_place(&mut self.slots, at..self.count);
             self.count -= 1;
         }
     }
@@ -87,12 +75,11 @@ impl Dues {
         requires unused { every (distinct (due_at 0 number)) (waiting self.old) ≡ true }
         ensures { waiting self.new ≡ listed standing number (waiting self.old) }
     {
-        match standing {
-            Standing::Held { collar: _, due } => self.enter(Due {
+        if let Standing::Held { due, .. } = standing {
+            self.enter(Due {
                 moment: due,
                 number,
-            }),
-            Standing::Plain | Standing::Quote { maker: _ } => {}
+            });
         }
     }
 
@@ -100,9 +87,8 @@ impl Dues {
     pub fn unlist(&mut self, number: u32, standing: Standing)
         ensures { waiting self.new ≡ unlisted standing number (waiting self.old) }
     {
-        match standing {
-            Standing::Held { collar: _, due: _ } => self.remove(number),
-            Standing::Plain | Standing::Quote { maker: _ } => {}
+        if let Standing::Held { .. } = standing {
+            self.remove(number);
         }
     }
 }

@@ -65,9 +65,7 @@ impl Book {
         ensures answer { result ≡ row_of number (rows self.old) }
         ensures after { rows self.new ≡ without number (rows self.old) }
     {
-        let Some(row) = self.resting.remove(number) else {
-            return None;
-        };
+        let row = self.resting.remove(number)?;
         self.awaiting.unlist(number, row.standing);
         Some(row)
     }
@@ -83,30 +81,22 @@ impl Book {
     pub fn settle(&mut self, number: u32, by: u32, due: u32)
         ensures { rows self.new ≡ settle due by number (rows self.old) }
     {
-        let Some(row) = self.resting.settle(number, by, due) else {
-            return;
-        };
-        if by == 0 {
-            return;
-        }
-        self.awaiting.unlist(number, row.standing);
-        if by < row.size {
-            self.awaiting.list(number, row.standing.renew(due));
+        if let Some(row) = self.resting.settle(number, by, due)
+            && by > 0
+        {
+            self.awaiting.unlist(number, row.standing);
+            if by < row.size {
+                self.awaiting.list(number, row.standing.renew(due));
+            }
         }
     }
 
-    // Whether the row with a number may be displayed at another price: it crosses no other row there. Where there is none, it may.
+    // Whether the row with a number may be displayed at another price: it crosses no other row there. Where there is none, it may. (Number,
+    // price and moment name one move, which is asked about and made: a record of it would be used twice.)
     pub fn can_move(&self, number: u32, display: Price, due: u32) -> bool
         ensures { result ≡ may_move number display due (rows self.now) }
     {
-        match self.row(number) {
-            Some(row) => self.resting.admits_instead(Row {
-                display,
-                standing: row.standing.move_on(display == row.limit, due),
-                ..row
-            }),
-            None => true,
-        }
+        self.row(number).is_none_or(|row| self.resting.admits_instead(row.moved_to(display, due)))
     }
 
     // Displays the row with a number at another price, at its new rank. A held order is due next at `due`, or becomes plain at its limit.
@@ -115,12 +105,7 @@ impl Book {
         ensures { rows self.new ≡ move_row number display due (rows self.old) }
     {
         if let Some(row) = self.withdraw(number) {
-            let standing = row.standing.move_on(display == row.limit, due);
-            self.insert(Row {
-                display,
-                standing,
-                ..row
-            });
+            self.insert(row.moved_to(display, due));
         }
     }
 

@@ -14,14 +14,8 @@ impl Book {
     pub fn best_in_reach(&self, taker: Taker) -> Option<Row>
         ensures { result ≡ found (in_reach taker) (rows self.now) }
     {
-        let Some(best) = self.best(taker.series, taker.side.opposite()) else {
-            return None;
-        };
-        if taker.reaches(best.display) {
-            Some(best)
-        } else {
-            None
-        }
+        self.best(taker.series, taker.side.opposite())
+            .filter(|best| taker.reaches(best.display))
     }
 
     // A taker of `size` contracts trades with the best row in its reach, at that row's display price, until it has nothing left or no row
@@ -31,10 +25,9 @@ impl Book {
         ensures { Took due taker size result (rows self.old) (rows self.new) trades.old trades.new }
     {
         let mut left = size;
-        while left > 0 {
-            let Some(best) = self.best_in_reach(taker) else {
-                break;
-            };
+        while left > 0
+            && let Some(best) = self.best_in_reach(taker)
+        {
             let traded = left.min(best.size);
             trades.push(taker.trade_with(best, traded));
             self.settle(best.number, traded, due);

@@ -1,4 +1,4 @@
-use Rattle.std.proofs.Common.{◌≡◌, ℕ, ◌-◌, min, [], ◌∷◌, reverse, sym, ap, ◌∙◌, subst, arith}
+use Rattle.std.proofs.Common.{◌≡◌, ℕ, ◌-◌, min, [], ◌∷◌, None, reverse, sym, ap, ◌∙◌, subst, arith}
 use Rattle.std.proofs.lemmas.Bool.{ltb-true}
 use Rattle.rolls.specs.Rolls.{Gains}
 use Rattle.book.specs.declared.row.Trade.{Trade}
@@ -6,12 +6,9 @@ use Rattle.book.specs.Books.{rows}
 use Rattle.book.specs.Rows.{sized, settle}
 use Rattle.book.specs.Trades.{trade_with}
 use Rattle.book.specs.Taking.{in_reach, take}
-use Rattle.book.proofs.Takes.{Underway, fill, take_nothing, take_none, underway_start, underway_more, underway_end}
+use Rattle.book.proofs.Takes.{Underway, fill, take_nothing, take_none, underway_more, underway_end}
 use Rattle.book.proofs.Tied.{found_every, found_less}
 use Rattle.book.proofs.book.Book.take.Goals as goal
-
-pub loop-left-init : goal.loop-left-init
-loop-left-init c = underway_start c.args.due c.args.taker c.args.size (rows c.args.self.now) c.args.trades.now c.requires
 
 pub push-requires : goal.push-requires
 push-requires c =
@@ -47,10 +44,11 @@ returns-after-loop-left c =
     underway_end c.args.due t c.args.size (rows c.args.self.now) c.args.trades.now c.loop-left.left rs c.loop-left.trades u c.args.self.now.resting.sound
     (subst (λ (k : ℕ). take c.args.due t k rs (reverse u.added) ≡ fill k rs (reverse u.added)) (sym none) (take_nothing c.args.due t rs (reverse u.added)))
 
-pub returns-in_default : goal.returns-in_default
-returns-in_default c =
+pub returns-in-loop-left : goal.returns-in-loop-left
+returns-in-loop-left c =
     let t = c.args.taker in
     let rs = rows c.loop-left.self in
     let u = c.loop-left.invariant in
+    let none : c.best_in_reach.result ≡ None = cc in
     underway_end c.args.due t c.args.size (rows c.args.self.now) c.args.trades.now c.loop-left.left rs c.loop-left.trades u c.args.self.now.resting.sound
-    (take_none c.args.due t c.loop-left.left rs (reverse u.added) (sym c.in_default.ensures))
+    (take_none c.args.due t c.loop-left.left rs (reverse u.added) (sym c.best_in_reach.ensures ∙ none))

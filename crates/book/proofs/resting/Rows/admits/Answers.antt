@@ -1,14 +1,9 @@
-use Rattle.std.proofs.Common.{◌≡◌, not, eqb, length, take, sym, ap, ◌∙◌, arith}
-use Rattle.std.proofs.lemmas.List.{length-take-le}
-use Rattle.book.specs.Lists.{first}
+use Rattle.std.proofs.Common.{rules, tests}
+use Rattle.std.proofs.lemmas.Iterator.{YieldsList-from_slice}
+use Rattle.std.proofs.lemmas.Iterator.Search.{all_from_yields_List}
+use Rattle.book.specs.Listings.{ranked}
 use Rattle.book.specs.Rows.{agrees}
-use Rattle.book.proofs.Keeps.{all_pass}
 use Rattle.book.proofs.resting.Rows.admits.Goals as goal
 
 pub returns : goal.returns
-returns c =
-    let b = c.args.self.now in
-    let long : length (take b.count b.slots) ≡ b.count = length-take-le b.count b.slots (omega arith) in
-    ap (λ k. eqb k b.count) c.first_place.ensures
-    ∙ ap (λ k. eqb (first (λ x. not (agrees c.args.row x)) (take b.count b.slots)) k) (sym long)
-    ∙ all_pass (agrees c.args.row) (take b.count b.slots)
+returns c = all_from_yields_List (agrees c.args.row) _ _ _ c.all.ensures.ran (YieldsList-from_slice (ranked c.args.self.now) (cc)) (λ x b q k. search (rules, tests))

@@ -1,41 +1,19 @@
-use Rattle.std.proofs.Common.{◌≡◌, length, get_or, None, sym, ap, ◌∙◌, arith}
-use Rattle.std.proofs.lemmas.List.{length-take-le}
-use Rattle.book.specs.Lists.{or_else}
+use Rattle.std.proofs.Common.{◌≡◌, sym, ap, ◌∙◌, rules, tests}
+use Rattle.std.specs.List.{slice_get}
+use Rattle.std.proofs.lemmas.List.Sorted.{IsPartitionPoint-from_clause}
 use Rattle.book.specs.Listings.{ranked}
-use Rattle.book.specs.Rows.{not_before, stands_at}
-use Rattle.book.proofs.Sound.{parted_from, best_at, best_nowhere}
-use Rattle.book.proofs.Steps.{read_at, blank}
+use Rattle.book.proofs.Searches.{parted_at, copied_item}
+use Rattle.book.proofs.Sound.{is_before, partitioned_side, best_at, if_there}
 use Rattle.book.proofs.resting.Rows.best.Goals as goal
 
-pub parting_place-at-requires : goal.parting_place-at-requires
-parting_place-at-requires c =
+pub returns : goal.returns
+returns c =
     let b = c.args.self.now in
-    record { room = omega arith; parted = parted_from c.args.series c.args.side (ranked b) b.sound }
-
-pub returns-then-is_at : goal.returns-then-is_at
-returns-then-is_at c =
-    let b = c.args.self.now in
-    let x = c.args.series in let side = c.args.side in
-    let long : length (ranked b) ≡ b.count = length-take-le b.count b.slots (omega arith) in
-    let read = read_at (not_before x side) b.slots b.count _ c.parting_place-at.ensures (omega arith) blank (omega arith) in
-    let st = c.if-is_at.ensures in
-    sym (best_at x side (ranked b) _ b.sound.0 (omega (arith, c.parting_place-at.ensures))
-    ∙ ap (λ r. or_else (stands_at x side r) r None) (sym read)
-    ∙ ap (λ t. or_else t (get_or b.slots c.parting_place-at.result blank) None) (sym st))
-
-pub returns-else-is_at : goal.returns-else-is_at
-returns-else-is_at c =
-    let b = c.args.self.now in
-    let x = c.args.series in let side = c.args.side in
-    let long : length (ranked b) ≡ b.count = length-take-le b.count b.slots (omega arith) in
-    let read = read_at (not_before x side) b.slots b.count _ c.parting_place-at.ensures (omega arith) blank (omega arith) in
-    let st = c.if-is_at.ensures in
-    sym (best_at x side (ranked b) _ b.sound.0 (omega (arith, c.parting_place-at.ensures))
-    ∙ ap (λ r. or_else (stands_at x side r) r None) (sym read)
-    ∙ ap (λ t. or_else t (get_or b.slots c.parting_place-at.result blank) None) (sym st))
-
-pub returns-else-at-self : goal.returns-else-at-self
-returns-else-at-self c =
-    let b = c.args.self.now in
-    let long : length (ranked b) ≡ b.count = length-take-le b.count b.slots (omega arith) in
-    sym (best_nowhere c.args.series c.args.side (ranked b) (omega (arith, c.parting_place-at.ensures)))
+    let x = c.args.series in
+    let side = c.args.side in
+    let i = c.partition_point-at.result in
+    let point = IsPartitionPoint-from_clause (is_before x side) (ranked b) i (rw c.rows-rows.ensures at c.partition_point-at.ensures.partitioned) (partitioned_side x side (ranked b) b.sound) (λ a r f k. search (rules, tests)) in
+    let there : c.filter.result ≡ if_there x side c.copied.result = search (rules, tests) in
+    let got : c.copied.result ≡ slice_get (ranked b) i = c.copied.ensures ∙ copied_item (ranked b) i c.get.result (rw c.rows-rows.ensures at c.get.ensures.lookup) in
+    there ∙ ap (if_there x side) got
+    ∙ sym (best_at x side (ranked b) i b.sound.0 (parted_at (is_before x side) (ranked b) i (rw c.rows-rows.ensures at c.partition_point-at.ensures.bound) point))

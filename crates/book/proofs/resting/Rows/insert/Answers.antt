@@ -1,36 +1,29 @@
-use Rattle.std.proofs.Common.{◌≡◌, length, arith, sym, subst}
-use Rattle.std.proofs.lemmas.List.{length-take-le}
+use Rattle.std.proofs.Common.{◌≡◌, ◌+◌, take, sym, subst, ◌∙◌, arith, rules, tests, length-take}
+use Rattle.std.proofs.lemmas.List.Sorted.{IsPartitionPoint-from_clause}
 use Rattle.book.specs.Listings.{ranked}
-use Rattle.book.specs.Rows.{Sound, precedes}
-use Rattle.book.proofs.Sound.{sound_insert, parted_rank}
-use Rattle.book.proofs.Steps.{at_within, placed_at}
+use Rattle.book.specs.Rows.{Sound, precedes, insert}
+use Rattle.book.proofs.Searches.{parted_at}
+use Rattle.book.proofs.Sound.{sound_insert, partitioned_rank, placed_rank}
 use Rattle.book.proofs.resting.Rows.insert.Goals as goal
+use Rattle.book.proofs.resting.Rows.insert.Goals.{After-open_place}
 
-pub parting_place-at-requires : goal.parting_place-at-requires
-parting_place-at-requires c =
+-- the row stands at its rank
+placed : (c : After-open_place) → take (c.args.self.now.count + 1) c.open_place.new.slots ≡ insert c.args.row (ranked c.args.self.now)
+placed c =
     let b = c.args.self.now in
-    record { room = omega arith; parted = parted_rank c.args.row (ranked b) b.sound }
-
-pub open_place-requires : goal.open_place-requires
-open_place-requires c =
-    let b = c.args.self.now in
-    let long : length (ranked b) ≡ b.count = length-take-le b.count b.slots (omega arith) in
-    record { within = at_within (precedes c.args.row) b.slots b.count _ c.parting_place-at.ensures (omega arith); room = omega arith }
+    let row = c.args.row in
+    let i = c.partition_point-at.result in
+    let point = IsPartitionPoint-from_clause (λ r. precedes r row) (ranked b) i (rw c.rows.ensures at c.partition_point-at.ensures.partitioned) (partitioned_rank row (ranked b) b.sound) (λ a r f k. search (rules, tests)) in
+    c.open_place.ensures.front ∙ placed_rank row (ranked b) i c.requires.fits (parted_at (λ r. precedes r row) (ranked b) i (rw c.rows.ensures at c.partition_point-at.ensures.bound) point)
 
 pub invariant_of-self : goal.invariant_of-self
 invariant_of-self c =
     let b = c.args.self.now in
-    let row = c.args.row in
-    let long : length (ranked b) ≡ b.count = length-take-le b.count b.slots (omega arith) in
     record {
-      few = omega arith;
+      few = omega (arith, length-take b.count b.slots, c.requires.room);
       whole = omega arith;
-      sound =
-          subst Sound (sym (placed_at (precedes row) b.slots b.count _ c.parting_place-at.ensures (omega arith) _ row c.open_place.ensures.front))
-          (sound_insert row (ranked b) c.requires.fits c.requires.some b.sound);
+      sound = subst Sound (sym (placed c)) (sound_insert c.args.row (ranked b) c.requires.fits c.requires.some b.sound);
     }
 
 pub returns : goal.returns
-returns c =
-    let b = c.args.self.now in
-    placed_at (precedes c.args.row) b.slots b.count _ c.parting_place-at.ensures (omega arith) _ c.args.row c.open_place.ensures.front
+returns c = placed (goal.at.returns c).After-open_place

@@ -1,36 +1,26 @@
-use Rattle.std.proofs.Common.{arith, sym, subst}
+use Rattle.std.proofs.Common.{sym, ◌∙◌}
 use Rattle.book.specs.Listings.{ranked}
-use Rattle.book.specs.Rows.{Sound, numbered}
-use Rattle.book.proofs.Sound.{sound_without, single_number}
-use Rattle.book.proofs.Steps.{found_at, nowhere_found, lacking_at, nowhere_lacking}
+use Rattle.book.specs.Rows.{numbered}
+use Rattle.book.proofs.Keeps.{found_none, lacking_none}
+use Rattle.book.proofs.Searches.{first_at, none_at, found_at, lacking_at}
+use Rattle.book.proofs.Sound.{single_number}
 use Rattle.book.proofs.resting.Rows.remove.Goals as goal
 
-pub invariant_of-self : goal.invariant_of-self
-invariant_of-self c =
-    let b = c.args.self.now in
+pub returns-in_err-at : goal.returns-in_err-at
+returns-in_err-at c =
     let n = c.args.number in
-    record {
-      few = omega arith;
-      whole = omega arith;
-      sound =
-          subst Sound (sym (lacking_at (numbered n) b.slots b.count _ c.first_place-at.ensures (omega arith) _ (single_number n (ranked b) b.sound) (omega arith) c.close_place.ensures.front))
-          (sound_without n (ranked b) b.sound);
-    }
+    let rs = ranked c.args.self.now in
+    let none = none_at (numbered n) rs (sym c.in_err-at.ensures) in
+    record { answer = c.from_residual.ensures ∙ sym (found_none (numbered n) rs none); after = sym (lacking_none (numbered n) rs none) }
 
-pub returns-then-at-self : goal.returns-then-at-self
-returns-then-at-self c =
-    let b = c.args.self.now in
+pub returns : goal.returns
+returns c =
     let n = c.args.number in
-    record {
-      answer = found_at (numbered n) b.slots b.count _ c.first_place-at.ensures (omega arith) _ (omega arith);
-      after = lacking_at (numbered n) b.slots b.count _ c.first_place-at.ensures (omega arith) _ (single_number n (ranked b) b.sound) (omega arith) c.close_place.ensures.front;
-    }
-
-pub returns-else-at-self : goal.returns-else-at-self
-returns-else-at-self c =
     let b = c.args.self.now in
-    let n = c.args.number in
+    let rs = ranked b in
+    let at = c.in_ok-at.at in
+    let first = first_at (numbered n) rs at (sym c.in_ok-at.ensures) in
     record {
-      answer = nowhere_found (numbered n) b.slots b.count _ c.first_place-at.ensures (omega arith) (omega arith);
-      after = nowhere_lacking (numbered n) b.slots b.count _ c.first_place-at.ensures (omega arith) (omega arith);
+      answer = rw c.rows.ensures (sym (found_at (numbered n) rs at _ first));
+      after = c.take_out.ensures ∙ lacking_at (numbered n) rs at (single_number n rs b.sound) first;
     }

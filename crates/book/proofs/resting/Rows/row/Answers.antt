@@ -1,14 +1,14 @@
-use Rattle.std.proofs.Common.{arith}
+use Rattle.std.proofs.Common.{rules, tests, ◌∙◌}
+use Rattle.std.proofs.lemmas.Iterator.{YieldsList-from_slice}
+use Rattle.std.proofs.lemmas.Iterator.Search.{find_from_yields_List}
+use Rattle.book.specs.Listings.{ranked}
 use Rattle.book.specs.Rows.{numbered}
-use Rattle.book.proofs.Steps.{found_at, nowhere_found}
+use Rattle.book.proofs.Searches.{find_found}
 use Rattle.book.proofs.resting.Rows.row.Goals as goal
 
-pub returns-then-at-self : goal.returns-then-at-self
-returns-then-at-self c =
-    let b = c.args.self.now in
-    found_at (numbered c.args.number) b.slots b.count _ c.first_place-at.ensures (omega arith) _ (omega arith)
-
-pub returns-else-at-self : goal.returns-else-at-self
-returns-else-at-self c =
-    let b = c.args.self.now in
-    nowhere_found (numbered c.args.number) b.slots b.count _ c.first_place-at.ensures (omega arith) (omega arith)
+pub returns : goal.returns
+returns c =
+    let rs = ranked c.args.self.now in
+    c.copied.ensures
+    ∙ find_from_yields_List (numbered c.args.number) _ _ _ c.find.ensures.ran (YieldsList-from_slice rs (cc)) (λ x b q k. search (rules, tests))
+    ∙ find_found (numbered c.args.number) rs
