@@ -1,31 +1,37 @@
 -- Moving the clock on in the code is moving it on by the definitions.
-use Rattle.std.proofs.Common.{◌≡◌, ℕ, zero, suc, ◌+◌, ◌-◌, ◌<◌, ◌≤◌, Bool, true, false, not, ◌&&◌, eqb, ltb, leb, List, [], ◌∷◌, ◌++◌, length, Some, None, Option, sym, refl, ap, ◌∙◌, subst, inl, inr, ⊎_elim, arith}
-use Rattle.std.proofs.lemmas.Bool.{leb-true, le-leb, ltb-true, lt-ltb, eqb-true, eq-eqb, ne_eqb, and_parts, and_from, and_cases, not-true, cond_both}
+use Rattle.std.proofs.Common.{◌≡◌, ℕ, zero, suc, ◌+◌, ◌-◌, ◌<◌, ◌≤◌, Bool, true, false, not, eqb, ltb, leb, List, [], ◌∷◌, ◌++◌, length, Some, None, Option, sym, refl, ap, ◌∙◌, subst, inl, inr, append-nil, arith}
+use Rattle.std.proofs.Math.Bool.{and-false}
+use Rattle.std.proofs.lemmas.Bool.{leb-true, le-leb, ltb-true, lt-ltb, eq-eqb, ne_eqb, and_parts, and_from, not-true, cond_both}
 use Rattle.values.specs.declared.side.Side.{Side}
-use Rattle.values.specs.Sides.{opposite, no_more_aggressive}
+use Rattle.values.specs.Sides.{opposite}
+use Rattle.std.specs.Borrow.{MutBor}
 use Rattle.rolls.specs.declared.roll.Roll.{Roll}
-use Rattle.rolls.specs.Rolls.{Gains, room}
-use Rattle.rolls.proofs.Gaining.{gains_nothing, gains_then}
+use Rattle.rolls.proofs.Gaining.{gains_nothing}
+use Rattle.book.specs.declared.book.Book.{Book}
 use Rattle.book.specs.declared.row.Row.{Row}
 use Rattle.book.specs.declared.row.Standing.{Standing}
 use Rattle.book.specs.declared.row.Standing.TheVariants.{Plain, Held, Quote}
 use Rattle.book.specs.declared.row.Due.{Due}
 use Rattle.book.specs.declared.row.Trade.{Trade}
 use Rattle.book.specs.Lists.{every, pairwise, lacking}
-use Rattle.book.specs.Rows.{same_side, meets, crosses, same_maker, numbered, precedes, agrees, agrees_instead, Sound, without, row_of, once_moved, moved_to, moved_in, move_row}
+use Rattle.book.specs.Rows.{meets, crosses, same_maker, numbered, precedes, agrees, agrees_instead, Sound, without, row_of, once_moved, moved_to, moved_in, move_row}
 use Rattle.book.specs.Taking.{Has}
 use Rattle.book.specs.Dues.{earliest}
 use Rattle.book.proofs.Keeps.{length_placed, length_lacking}
+use Rattle.book.specs.Books.{rows}
 use Rattle.trading.specs.Journals.{trades_of}
 use Rattle.trading.specs.Desks.{Desk, highest, serve, second_after, move_on, move_standing, move_found, turn_found, turn, turns, advance}
 use Rattle.trading.specs.Doing.{desk, Trading}
+use Rattle.trading.specs.Pits.{Dealing}
 use Rattle.trading.specs.Rests.{below, clear_by, served, timely_by, timely, AtRest, due_by, MayMove}
-use Rattle.trading.proofs.Sides.{Beyond, clash, decide, not_opposite, no_more_false, not_no_more, same_side_lem, same_self}
-use Rattle.trading.proofs.Faces.{Role, held, role_of, Face, face, face_number, has_in, row_of_has, without_in}
-use Rattle.trading.proofs.Resting.{Apart, apart_sym, Sane, Hold, HoldAs, Rested, onwards, highest_in, turn_rested, turns_rested}
+use Rattle.trading.proofs.Sides.{Beyond, clash, decide, not_opposite, not_no_more}
+use Rattle.trading.proofs.Faces.{Role, held, role_of, Face, face, face_number, has_in, row_of_has, without_in, met_true, met_false}
+use Rattle.trading.proofs.Resting.{Apart, apart_sym, Sane, Hold, HoldAs, Rested, onwards, highest_in, highest_within, turn_rested, turns_rested}
 use Rattle.trading.proofs.Timings.{due_count, due_length, DueIn, Timed, Clocked, turn_clocked, turns_clocked, none_due, earliest_some, row_of_of}
 use Rattle.trading.proofs.Each.{every_has, every_from, in_has, sound_positive, sound_distinct}
-use Rattle.trading.proofs.Entered.{highest_within, highest_insert, serve_adds}
+use Rattle.trading.proofs.Adds.{Adds, adds_nothing, adds_if, adds_then, trading_then, deals_nothing, deals_then}
+use Rattle.trading.proofs.Served.{serve_adds}
+use Rattle.trading.proofs.Entered.{highest_insert}
 
 -- ---- between calls, by tests and by statements
 
@@ -36,9 +42,7 @@ sound_apart xs s r q a b = go xs s.1 a b
     agree_apart : (x y : Row) → agrees x y ≡ true → Apart (face x) (face y)
     agree_apart x y e se si =
         let n : crosses x y ≡ false = not-true (crosses x y) (and_parts (not (crosses x y)) _ (and_parts (not (eqb x.number y.number)) _ e).1).0 in
-        let a1 : eqb y.series x.series ≡ true = eq-eqb y.series x.series (sym se) in
-        let b1 : same_side y.side (opposite x.side) ≡ true = subst (λ (z : Side). same_side z (opposite x.side) ≡ true) (sym si) (same_self (opposite x.side)) in
-        no_more_false x.side y.display x.display (⊎_elim (λ z. absurd (clash _ a1 z)) (λ z. ⊎_elim (λ w. absurd (clash _ b1 w)) (λ w. w) (and_cases _ _ z)) (and_cases _ _ n))
+        met_false x.series x.side x.display y n (sym se) si
 
     go : (ys : List Row) → pairwise agrees ys ≡ true → Has r ys → Has q ys → Apart (face r) (face q)
     go [] e a b = absurd a
@@ -47,25 +51,12 @@ sound_apart xs s r q a b = go xs s.1 a b
     go (y ∷ ys) e (inr a) (inl b) = subst (λ (z : Row). Apart (face r) (face z)) (sym b) (apart_sym (face y) (face r) (agree_apart y r (every_has (agrees y) ys (and_parts (every (agrees y) ys) _ e).0 r a)))
     go (y ∷ ys) e (inr a) (inr b) = go ys (and_parts (every (agrees y) ys) _ e).1 a b
 
--- a contra row of the series that is not met lies beyond
-beyond_met : (s : ℕ) (side : Side) (p : ℕ) (q : Row) → meets s side p q ≡ false → q.series ≡ s → q.side ≡ opposite side → Beyond side q.display p
-beyond_met s side p q n se si =
-    let a : eqb q.series s ≡ true = eq-eqb q.series s se in
-    let b : same_side q.side (opposite side) ≡ true = subst (λ (z : Side). same_side z (opposite side) ≡ true) (sym si) (same_self (opposite side)) in
-    no_more_false side q.display p (⊎_elim (λ z. absurd (clash _ a z)) (λ z. ⊎_elim (λ w. absurd (clash _ b w)) (λ w. w) (and_cases _ _ z)) (and_cases _ _ n))
-
 met_not : (s : ℕ) (side : Side) (p : ℕ) (q : Row) → (q.series ≡ s → q.side ≡ opposite side → Beyond side q.display p) → meets s side p q ≡ false
-met_not s side p q h =
-    decide (meets s side p q)
-    (λ e.
-    let a = and_parts (eqb q.series s) _ e in
-    let b = and_parts (same_side q.side (opposite side)) (no_more_aggressive side q.display p) a.1 in
-    absurd (not_no_more side q.display p (h (eqb-true q.series s a.0) (same_side_lem q.side (opposite side) b.0)) b.1))
-    (λ e. e)
+met_not s side p q h = decide (meets s side p q) (λ e. let m = met_true s side p q e in absurd (not_no_more side q.display p (h m.0 m.1) m.2)) (λ e. e)
 
 hold_from : (x : Standing) (r q : Row) → clear_by x r q ≡ true → HoldAs (role_of x) (face r) (face q)
 hold_from Plain r q e = tt
-hold_from (Held c m) r q e = λ se si. beyond_met r.series r.side (onwards r c) q (not-true _ e) se si
+hold_from (Held c m) r q e = λ se si. met_false r.series r.side (onwards r c) q (not-true _ e) se si
 hold_from (Quote k) r q e = tt
 
 hold_back : (x : Standing) (r q : Row) → HoldAs (role_of x) (face r) (face q) → clear_by x r q ≡ true
@@ -124,10 +115,6 @@ rest_back clock next xs pos ok timed = (
   timed_back clock xs timed,
 )
 
-and_none : (b : Bool) → not (b && false) ≡ true
-and_none true = refl
-and_none false = refl
-
 widen : (low high more : ℕ) (xs : List Row) → high ≤ more → Timed low high xs → Timed low more xs
 widen low high more [] le t = tt
 widen low high more (x ∷ xs) le t = (at x.standing t.0, widen low high more xs le t.1)
@@ -169,7 +156,7 @@ may_move_lem xs ok e r c m at how =
         let held_by : HoldAs (held c) (face r) (face q) = subst (λ (y : Role). HoldAs y (face r) (face q)) (ap role_of how) (ok.1 (face r) (face q) (has_in r xs has) (has_in q xs h)) in
         let crossed : crosses (moved_to (onwards r c) (second_after e.moment) r) q ≡ false = met_not r.series r.side (onwards r c) q held_by in
         let quoted : same_maker (once_moved (eqb (onwards r c) r.limit) (second_after e.moment) r.standing) q.standing ≡ false = rw how (no_maker (eqb (onwards r c) r.limit) c m (second_after e.moment) q.standing) in
-        rw (z, differs, crossed, quoted) (and_none (eqb q.series r.series && same_side q.side r.side)))
+        rw (z, differs, crossed, quoted, and-false))
 
 -- ---- the rows after a move
 
@@ -202,25 +189,27 @@ moved_highest n p due xs = by (row_of n xs) refl
 -- ---- one turn of the loop
 
 -- moving and serving go by the rows alone, and note their trades after the journal so far
-pub turn_adds : (k moment n : ℕ) (d : Desk) → (let f = move_found k moment (row_of n d.rows) in ((f d).rows ≡ (f (desk d.rows)).rows) × (trades_of (f d).journal ≡ trades_of d.journal ++ trades_of (f (desk d.rows)).journal))
-unfolding move_on
-turn_adds k moment n d = by (row_of n d.rows)
+module _ (k moment : ℕ) where
+  moved_adds : (r : Row) (c : ℕ) → Adds (move_on r c moment)
+  unfolding move_on
+  moved_adds r c d = (refl, sym (append-nil (trades_of d.journal)))
+
+  standing_adds : (x : Standing) (r : Row) → Adds (move_standing k moment x r)
+  standing_adds Plain r d = adds_nothing d
+  standing_adds (Held c m) r d = adds_then (move_on r c moment) (serve (second_after k) r.series) (moved_adds r c) (serve_adds (second_after k) r.series) d
+  standing_adds (Quote q) r d = adds_nothing d
+
+  found_adds : (o : Option Row) → Adds (move_found k moment o)
+  found_adds None d = adds_nothing d
+  found_adds (Some r) d = standing_adds r.standing r d
+
+pub turn_adds : (k : ℕ) → Adds (turn k)
+unfolding turn
+turn_adds k d = by (earliest d.rows)
   where
-    none : (xs : List Trade) → xs ≡ xs ++ []
-    none [] = refl
-    none (x ∷ xs) = ap (λ (ys : List Trade). x ∷ ys) (none xs)
-
-    standing : (x : Standing) (r : Row) → ((move_standing k moment x r d).rows ≡ (move_standing k moment x r (desk d.rows)).rows) × (trades_of (move_standing k moment x r d).journal ≡ trades_of d.journal ++ trades_of (move_standing k moment x r (desk d.rows)).journal)
-    standing Plain r = (refl, none (trades_of d.journal))
-    standing (Held c m) r =
-        let a = serve_adds (second_after k) r.series (move_on r c moment d) in
-        let b = serve_adds (second_after k) r.series (move_on r c moment (desk d.rows)) in
-        (a.0 ∙ sym b.0, a.1 ∙ ap (λ (ys : List Trade). trades_of d.journal ++ ys) (sym b.1))
-    standing (Quote q) r = (refl, none (trades_of d.journal))
-
-    by : (o : Option Row) → ((move_found k moment o d).rows ≡ (move_found k moment o (desk d.rows)).rows) × (trades_of (move_found k moment o d).journal ≡ trades_of d.journal ++ trades_of (move_found k moment o (desk d.rows)).journal)
-    by None = (refl, none (trades_of d.journal))
-    by (Some r) = standing r.standing r
+    by : (o : Option Due) → ((turn_found k o d).rows ≡ (turn_found k o (desk d.rows)).rows) × (trades_of (turn_found k o d).journal ≡ trades_of d.journal ++ trades_of (turn_found k o (desk d.rows)).journal)
+    by None = adds_nothing d
+    by (Some e) = adds_if (leb e.moment k) (move_found k e.moment (row_of e.number d.rows)) (found_adds k e.moment (row_of e.number d.rows)) d
 
 -- the turn of an entry that is due
 turn_of : (k : ℕ) (d : Desk) (e : Due) → due_by k (earliest d.rows) ≡ Some e → (earliest d.rows ≡ Some e) × (e.moment ≤ k) × (turn k d ≡ move_found k e.moment (row_of e.number d.rows) d)
@@ -228,11 +217,11 @@ unfolding turn
 turn_of k d e w = by (earliest d.rows) refl w
   where
     by : (o : Option Due) → earliest d.rows ≡ o → due_by k o ≡ Some e → (earliest d.rows ≡ Some e) × (e.moment ≤ k) × (turn_found k o d ≡ move_found k e.moment (row_of e.number d.rows) d)
-    by None g w = absurd (let z : ◌≡◌ {A = ℕ} 0 1 = cc in omega arith)
+    by None g w = cc
     by (Some q) g w =
         decide (leb q.moment k)
         (λ t. let s : q ≡ e = cc in (g ∙ ap Some s, subst (λ (y : Due). y.moment ≤ k) s (leb-true q.moment k t), rw t (ap (λ (y : Due). move_found k y.moment (row_of y.number d.rows) d) s)))
-        (λ t. absurd (let z : ◌≡◌ {A = ℕ} 0 1 = cc in omega arith))
+        (λ t. cc)
 
 -- where nobody is due a turn changes nothing
 turn_idle : (k : ℕ) (d : Desk) → due_by k (earliest d.rows) ≡ None → turn k d ≡ d
@@ -241,7 +230,7 @@ turn_idle k d w = by (earliest d.rows) w
   where
     by : (o : Option Due) → due_by k o ≡ None → turn_found k o d ≡ d
     by None w = refl
-    by (Some q) w = decide (leb q.moment k) (λ t. absurd (let z : ◌≡◌ {A = ℕ} 0 1 = cc in omega arith)) (λ t. rw t)
+    by (Some q) w = decide (leb q.moment k) (λ t. cc) (λ t. rw t)
 
 turns_idle : (n k : ℕ) (d : Desk) → turn k d ≡ d → turns n k d ≡ d
 unfolding turns
@@ -261,80 +250,68 @@ due_some k xs e w le = let f = earliest_some xs e w in go xs f.there f.how
     go (y ∷ ys) (inr h) s = let g = go ys h s in omega arith
 
 -- what holds while the clock's loop goes on: the turns so far were made, and enough are left
-pub record Advancing (low k : ℕ) (rs₀ : List Row) (roll₀ : Roll Trade) (rs : List Row) (roll : Roll Trade) : Type 0 where
+pub record Advancing (low k : ℕ) (book₀ book : MutBor Book) (roll₀ roll : MutBor (Roll Trade)) : Type 0 where
   pub left : ℕ
   pub now : Desk
-  pub same : advance k (desk rs₀) ≡ turns left k now
-  pub rests : rs ≡ now.rows
-  pub gains : Gains roll₀ roll (trades_of now.journal)
-  pub rested : Rested 999999 rs
-  pub clocked : Clocked low (k + 1000) k left rs
-  pub places : length rs ≤ room roll
+  pub same : advance k (desk (rows book₀.now)) ≡ turns left k now
+  pub did : Dealing book₀ book roll₀ roll now
+  pub rested : Rested 999999 (rows book.now)
+  pub clocked : Clocked low (k + 1000) k left (rows book.now)
 
-pub advancing_starts : (low k : ℕ) (rs : List Row) (roll : Roll Trade) → AtRest low 1000000 rs → Sound rs → low ≤ k → k ≤ low + 1000 → length rs ≤ room roll → Advancing low k rs roll rs roll
+pub advancing_starts : (low k : ℕ) (book : MutBor Book) (roll : MutBor (Roll Trade)) → AtRest low 1000000 (rows book.now) → low ≤ k → k ≤ low + 1000 → Advancing low k book book roll roll
 unfolding advance
-advancing_starts low k rs roll rest sound le soon places =
-    let h = rest_from low 1000000 rs rest sound in
+advancing_starts low k book roll rest le soon =
+    let rs = rows book.now in
+    let h = rest_from low 1000000 rs rest book.now.resting.sound in
     record {
       left = length rs;
       now = desk rs;
       same = refl;
-      rests = refl;
-      gains = gains_nothing roll;
+      did = deals_nothing book roll;
       rested = h.0;
       clocked = (widen low (low + 1000) (k + 1000) rs (omega arith) h.1, due_length k rs);
-      places = places;
     }
 
-module _ {low k : ℕ} {rs₀ : List Row} {roll₀ : Roll Trade} {rs : List Row} {roll : Roll Trade} (u : Advancing low k rs₀ roll₀ rs roll) (le : low ≤ k) (soon : k ≤ low + 1000) where
-  pub advancing_ends : due_by k (earliest rs) ≡ None → Trading rs roll₀ roll (advance k (desk rs₀))
+module _ {low k : ℕ} {book₀ book : MutBor Book} {roll₀ roll : MutBor (Roll Trade)} (u : Advancing low k book₀ book roll₀ roll) where
+  pub advancing_ends : due_by k (earliest (rows book.now)) ≡ None → Dealing book₀ book roll₀ roll (advance k (desk (rows book₀.now)))
   advancing_ends e =
-      let idle : turn k u.now ≡ u.now = turn_idle k u.now (subst (λ (x : List Row). due_by k (earliest x) ≡ None) u.rests e) in
-      let done : advance k (desk rs₀) ≡ u.now = u.same ∙ turns_idle u.left k u.now idle in
-      record {
-        rests = u.rests ∙ ap (λ (d : Desk). d.rows) (sym done);
-        gains = subst (λ (d : Desk). Gains roll₀ roll (trades_of d.journal)) (sym done) u.gains;
-      }
+      let idle : turn k u.now ≡ u.now = turn_idle k u.now (subst (λ (x : List Row). due_by k (earliest x) ≡ None) u.did.did.rests e) in
+      subst (Dealing book₀ book roll₀ roll) (sym (u.same ∙ turns_idle u.left k u.now idle)) u.did
 
-  pub advancing_due : (e : Due) → due_by k (earliest rs) ≡ Some e → (e.moment ≤ k) × (highest rs < 1000000) × MayMove e rs
-  advancing_due e w =
-      let d = desk rs in
-      let t = turn_of k d e w in
-      (t.1, highest_top rs u.rested.0, may_move_lem rs u.rested e)
+  module _ (e : Due) (first : due_by k (earliest (rows book.now)) ≡ Some e) where
+    pub advancing_due : (e.moment ≤ k) × MayMove e (rows book.now)
+    advancing_due = ((turn_of k (desk (rows book.now)) e first).1, may_move_lem (rows book.now) u.rested e)
 
-  pub advancing_next : (e : Due) (rs' : List Row) (roll' : Roll Trade) → due_by k (earliest rs) ≡ Some e → length rs' ≤ room roll' → Trading rs' roll roll' (move_found k e.moment (row_of e.number rs) (desk rs)) → Advancing low k rs₀ roll₀ rs' roll'
-  advancing_next e rs' roll' w places did = by u.left refl
-    where
-      d : Desk
-      d = u.now
+    module _ (le : low ≤ k) (soon : k ≤ low + 1000) {book' : MutBor Book} {roll' : MutBor (Roll Trade)} (did : Dealing book book' roll roll' (move_found k e.moment (row_of e.number (rows book.now)) (desk (rows book.now)))) where
+      turned_so : Dealing book book' roll roll' (turn k (desk (rows book.now)))
+      turned_so = subst (Dealing book book' roll roll') (sym (turn_of k (desk (rows book.now)) e first).2) did
 
-      at_d : due_by k (earliest d.rows) ≡ Some e
-      at_d = subst (λ (x : List Row). due_by k (earliest x) ≡ Some e) u.rests w
+      due_left : (b : ℕ) → Clocked low (k + 1000) k (suc b) (rows book.now) → Clocked low (k + 1000) k b (rows book'.now)
+      due_left b h = subst (Clocked low (k + 1000) k b) (sym turned_so.did.rests) (turn_clocked low (k + 1000) k soon le (omega arith) (desk (rows book.now)) b u.rested h)
 
-      step : turn k d ≡ move_found k e.moment (row_of e.number d.rows) d
-      step = (turn_of k d e at_d).2
+      is_due : 0 < due_count k (rows book.now)
+      is_due = let t = turn_of k (desk (rows book.now)) e first in due_some k (rows book.now) e t.0 t.1
 
-      by : (n : ℕ) → u.left ≡ n → Advancing low k rs₀ roll₀ rs' roll'
-      by zero z =
-          let some = due_some k rs e (turn_of k (desk rs) e w).0 (turn_of k (desk rs) e w).1 in
-          absurd (let c = u.clocked.1 in omega arith)
-      by (suc n) z =
-          let adds = turn_adds k e.moment e.number d in
-          let rows_are : rs' ≡ (turn k d).rows = did.rests ∙ ap (λ (x : List Row). (move_found k e.moment (row_of e.number x) (desk x)).rows) u.rests ∙ sym adds.0 ∙ ap (λ (x : Desk). x.rows) (sym step) in
-          let enough : Clocked low (k + 1000) k (suc n) d.rows = subst (λ (x : List Row). Clocked low (k + 1000) k (suc n) x) u.rests (subst (λ (x : ℕ). Clocked low (k + 1000) k x rs) z u.clocked) in
-          let ok : Rested 999999 d.rows = subst (λ (x : List Row). Rested 999999 x) u.rests u.rested in
-          record {
+      pub advancing_next : Advancing low k book₀ book' roll₀ roll'
+      advancing_next = by u.left refl
+        where
+          by : (n : ℕ) → u.left ≡ n → Advancing low k book₀ book' roll₀ roll'
+          by zero z = absurd (let p = is_due in let c = u.clocked.1 in omega arith)
+          by (suc n) z = record {
             left = n;
-            now = turn k d;
-            same = u.same ∙ ap (λ (x : ℕ). turns x k d) z ∙ turns_more n k d;
-            rests = rows_are;
-            gains = subst (λ (x : Desk). Gains roll₀ roll' (trades_of x.journal)) (sym step)
-                (subst (Gains roll₀ roll') (sym (adds.1 ∙ ap (λ (x : List Row). trades_of d.journal ++ trades_of (move_found k e.moment (row_of e.number x) (desk x)).journal) (sym u.rests)))
-                (gains_then roll₀ roll roll' _ _ u.gains did.gains));
-            rested = subst (λ (x : List Row). Rested 999999 x) (sym rows_are) (turn_rested d k ok);
-            clocked = subst (λ (x : List Row). Clocked low (k + 1000) k n x) (sym rows_are) (turn_clocked low (k + 1000) k soon le (omega arith) d n ok enough);
-            places = places;
+            now = turn k u.now;
+            same = u.same ∙ ap (λ (x : ℕ). turns x k u.now) z ∙ turns_more n k u.now;
+            did = deals_then (turn k) (turn_adds k) u.now u.did turned_so;
+            rested = subst (Rested 999999) (sym turned_so.did.rests) (turn_rested (desk (rows book.now)) k u.rested);
+            clocked = due_left n (subst (λ (x : ℕ). Clocked low (k + 1000) k x (rows book.now)) z u.clocked);
           }
+
+      pub advancing_less : due_count k (rows book'.now) < due_count k (rows book.now)
+      advancing_less = by (due_count k (rows book.now)) refl
+        where
+          by : (n : ℕ) → due_count k (rows book.now) ≡ n → due_count k (rows book'.now) < due_count k (rows book.now)
+          by zero z = absurd (let p = is_due in omega arith)
+          by (suc b) z = let c = (due_left b (u.clocked.0, omega arith)).1 in omega arith
 
 -- ---- what the clock leaves
 
@@ -351,27 +328,8 @@ advance_rests low k next rs rest sound pos le soon =
 pub turned : (k moment n : ℕ) (rs moved after : List Row) (roll₀ roll : Roll Trade) (r : Row) (c m p : ℕ) → row_of n rs ≡ Some r → r.standing ≡ Held c m → p ≡ onwards r c → moved ≡ move_row r.number p (second_after moment) rs → Trading after roll₀ roll (serve (second_after k) r.series (desk moved)) → Trading after roll₀ roll (move_found k moment (row_of n rs) (desk rs))
 unfolding move_on
 turned k moment n rs moved after roll₀ roll r c m p at how to is did =
-    let d : Desk = move_on r c moment (desk rs) in
-    let a = serve_adds (second_after k) r.series d in
-    let same : serve (second_after k) r.series (desk moved) ≡ serve (second_after k) r.series (desk d.rows) = ap (λ (x : List Row). serve (second_after k) r.series (desk x)) (is ∙ ap (λ (q : ℕ). move_row r.number q (second_after moment) rs) to) in
-    rw at (by r.standing how (record {
-      rests = did.rests ∙ ap (λ (z : Desk). z.rows) same ∙ sym a.0;
-      gains = subst (Gains roll₀ roll) (sym (a.1 ∙ ap (λ (z : Desk). trades_of z.journal) (sym same))) did.gains;
-    }))
+    let start : Trading moved roll₀ roll₀ (move_on r c moment (desk rs)) = record { rests = is ∙ ap (λ (q : ℕ). move_row r.number q (second_after moment) rs) to; gains = gains_nothing roll₀ } in
+    rw at (by r.standing how (trading_then (serve (second_after k) r.series) (serve_adds (second_after k) r.series) (move_on r c moment (desk rs)) moved after roll₀ roll₀ roll start did))
   where
     by : (x : Standing) → x ≡ Held c m → Trading after roll₀ roll (serve (second_after k) r.series (move_on r c moment (desk rs))) → Trading after roll₀ roll (move_standing k moment x r (desk rs))
     by x e t = rw e t
-
-pub advancing_less : {low k : ℕ} {rs₀ : List Row} {roll₀ : Roll Trade} {rs : List Row} {roll : Roll Trade} → Advancing low k rs₀ roll₀ rs roll → low ≤ k → k ≤ low + 1000 → (e : Due) (rs' : List Row) (roll' : Roll Trade) → due_by k (earliest rs) ≡ Some e → Trading rs' roll roll' (move_found k e.moment (row_of e.number rs) (desk rs)) → due_count k rs' < due_count k rs
-advancing_less {low} {k} {rs₀} {roll₀} {rs} u le soon e rs' roll' w did =
-    let t = turn_of k (desk rs) e w in
-    let same : rs' ≡ (turn k (desk rs)).rows = did.rests ∙ ap (λ (x : Desk). x.rows) (sym t.2) in
-    by (due_count k rs) refl (due_some k rs e t.0 t.1) same
-  where
-    by : (n : ℕ) → due_count k rs ≡ n → 0 < due_count k rs → rs' ≡ (turn k (desk rs)).rows → due_count k rs' < due_count k rs
-    by zero z p same = absurd (omega arith)
-    by (suc b) z p same =
-        let c = turn_clocked low (k + 1000) k soon le (omega arith) (desk rs) b u.rested (u.clocked.0, omega arith) in
-        let s : due_count k rs' ≡ due_count k (turn k (desk rs)).rows = ap (due_count k) same in
-        let d = c.1 in
-        omega arith

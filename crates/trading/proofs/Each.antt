@@ -1,13 +1,14 @@
 -- Going through the numbers: those that nobody wanted has are passed over.
-use Rattle.std.proofs.Common.{◌≡◌, ℕ, zero, suc, ◌+◌, ◌<◌, ◌≤◌, Bool, true, false, cond, not, eqb, ltb, leb, List, [], ◌∷◌, Some, None, Option, sym, refl, ap, ◌∙◌, subst, inl, inr, ⊎_elim, arith}
+use Rattle.std.proofs.Common.{◌≡◌, ℕ, zero, suc, ◌+◌, ◌-◌, ◌<◌, ◌≤◌, Bool, true, false, cond, not, eqb, ltb, leb, List, [], ◌∷◌, Some, None, Option, sym, refl, ap, ◌∙◌, subst, inl, inr, ⊎_elim, arith}
 use Rattle.std.proofs.lemmas.Bool.{leb-true, ltb-true, ltb-false, le-leb, eqb-false, and_parts, and_from, not-true, cond_both, cases_eq}
 use Rattle.book.specs.declared.row.Row.{Row}
 use Rattle.book.specs.Lists.{every, pairwise}
 use Rattle.book.specs.Taking.{Has}
 use Rattle.book.specs.Rows.{agrees, sized, Sound, row_of, lower, lowest, wanted_from}
-use Rattle.trading.specs.Desks.{Desk, each_number}
+use Rattle.trading.specs.Desks.{Desk, highest, each_number}
 use Rattle.trading.proofs.Sides.{clash, decide}
-use Rattle.trading.proofs.Faces.{Face, face, In, row_of_has, row_of_some, Positive, Distinct}
+use Rattle.trading.proofs.Faces.{Face, face, In, Within, has_in, row_of_has, row_of_some, Positive, Distinct}
+use Rattle.trading.proofs.Resting.{highest_in}
 
 -- ---- what the book's type says of its rows
 
@@ -56,8 +57,8 @@ pub record Lowest (p : Row → Bool) (r : Row) (xs : List Row) : Type 0 where
 
 lower_none : (b : Bool) (x : Row) (o : Option Row) → lower b x o ≡ None → (b ≡ false) × (o ≡ None)
 lower_none false x o e = (refl, e)
-lower_none true x None e = absurd (let z : ◌≡◌ {A = ℕ} 0 1 = cc in omega arith)
-lower_none true x (Some q) e = absurd (let z : ◌≡◌ {A = ℕ} 0 1 = cc in omega arith)
+lower_none true x None e = cc
+lower_none true x (Some q) e = cc
 
 pub lowest_none : (p : Row → Bool) (xs : List Row) → lowest p xs ≡ None → (q : Row) → Has q xs → p q ≡ false
 unfolding lowest
@@ -98,7 +99,7 @@ lower_some p xs x r true px (Some y) none some e =
 
 pub lowest_some : (p : Row → Bool) (xs : List Row) (r : Row) → lowest p xs ≡ Some r → Lowest p r xs
 unfolding lowest
-lowest_some p [] r e = absurd (let z : ◌≡◌ {A = ℕ} 0 1 = cc in omega arith)
+lowest_some p [] r e = cc
 lowest_some p (x ∷ xs) r e = lower_some p xs x r (p x) refl (lowest p xs) (λ g. lowest_none p xs g) (λ q g. lowest_some p xs q g) e
 
 -- ---- numbers that are passed over
@@ -146,3 +147,47 @@ module _ (f : ℕ → Desk → Desk) (w : Row → Bool) (idle : Idle f w) (d : D
       decide (w r)
       (λ y. absurd (clash _ (and_from (leb (p + 1) r.number) (w r) (le-leb (p + 1) r.number (omega arith)) y) (lowest_none (wanted_from w (p + 1)) (each_number p f d).rows e r h)))
       (λ y. y))
+
+-- ---- a loop over the rows that are wanted, the lowest number first
+
+-- what holds while it goes on: f is done at the numbers below `from`, and the rows are those that this leaves
+pub record Walk (f : ℕ → Desk → Desk) (d : Desk) (from : ℕ) (rs : List Row) : Type 0 where
+  pub begun : 1 ≤ from
+  pub within : from ≤ highest d.rows + 1
+  pub rests : rs ≡ (each_number (from - 1) f d).rows
+
+pub walk_starts : (f : ℕ → Desk → Desk) (d : Desk) → Walk f d 1 d.rows
+unfolding each_number
+walk_starts f d = record { begun = omega arith; within = omega arith; rests = refl }
+
+module _ {f : ℕ → Desk → Desk} {w : Row → Bool} (idle : Idle f w) (brings_none : (n : ℕ) (d : Desk) → Within (each_number n f d).rows d.rows) where
+  module _ {d : Desk} {from : ℕ} {rs : List Row} (u : Walk f d from rs) where
+    at_done : (o : Option Row) → lowest (wanted_from w from) rs ≡ o → lowest (wanted_from w ((from - 1) + 1)) (each_number (from - 1) f d).rows ≡ o
+    at_done o e =
+        let b = u.begun in
+        let n : from ≡ (from - 1) + 1 = omega arith in
+        subst (λ (k : ℕ). lowest (wanted_from w k) (each_number (from - 1) f d).rows ≡ o) n (subst (λ (xs : List Row). lowest (wanted_from w from) xs ≡ o) u.rests e)
+
+    pub walk_ends : lowest (wanted_from w from) rs ≡ None → each_number (highest d.rows) f d ≡ each_number (from - 1) f d
+    walk_ends e = each_end f w idle d (from - 1) (highest d.rows) (let l = u.within in omega arith) (at_done None e)
+
+    module _ (r : Row) (e : lowest (wanted_from w from) rs ≡ Some r) where
+      low : Lowest (wanted_from w from) r rs
+      low = lowest_some (wanted_from w from) rs r e
+
+      pub walk_wanted : (Has r rs) × (w r ≡ true)
+      walk_wanted = (low.there, (and_parts (leb from r.number) (w r) low.passes).1)
+
+      pub walk_number : (from ≤ r.number) × (r.number ≤ highest d.rows)
+      walk_number = (
+        leb-true from r.number (and_parts (leb from r.number) (w r) low.passes).0,
+        highest_in d.rows _ (brings_none (from - 1) d _ (has_in r _ (subst (Has r) u.rests low.there))),
+      )
+
+      pub walk_step : each_number ((r.number + 1) - 1) f d ≡ f r.number (each_number (from - 1) f d)
+      walk_step =
+          let back : (r.number + 1) - 1 ≡ r.number = omega arith in
+          ap (λ (n : ℕ). each_number n f d) back ∙ each_next f w idle d (from - 1) r (at_done (Some r) e)
+
+      pub walk_next : {after : List Row} → after ≡ (f r.number (each_number (from - 1) f d)).rows → Walk f d (r.number + 1) after
+      walk_next a = let n = walk_number in record { begun = omega arith; within = omega arith; rests = a ∙ ap (λ (x : Desk). x.rows) (sym walk_step) }

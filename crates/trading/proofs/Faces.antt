@@ -1,18 +1,18 @@
 -- What trading, serving, moving and withdrawing leave of the rows, by what of a row stays while it rests.
 use Rattle.std.proofs.Common.{◌≡◌, ℕ, zero, suc, ◌-◌, ◌<◌, ◌≤◌, min, true, false, eqb, ltb, ◌⊎◌, List, [], ◌∷◌, Some, None, sym, refl, ap, ◌∙◌, subst, inl, inr, ⊎_elim, arith}
-use Rattle.std.proofs.lemmas.Bool.{leb-true, leb-false, eqb-true, eqb-false, eq-eqb, and_parts, and_cases, cond_both}
+use Rattle.std.proofs.lemmas.Bool.{leb-true, leb-false, eqb-true, eqb-false, eq-eqb, and_parts, cond_both}
 use Rattle.values.specs.declared.side.Side.{Side}
-use Rattle.values.specs.Sides.{opposite, NoMoreAggressive}
+use Rattle.values.specs.Sides.{opposite, NoMoreAggressive, no_more_aggressive}
 use Rattle.book.specs.declared.row.Row.{Row}
 use Rattle.book.specs.declared.row.Standing.{Standing}
 use Rattle.book.specs.declared.row.Standing.TheVariants.{Plain, Held, Quote}
 use Rattle.book.specs.declared.row.Taker.{Taker}
 use Rattle.book.specs.declared.row.Trade.{Trade}
 use Rattle.book.specs.Lists.{found, placed, lacking}
-use Rattle.book.specs.Rows.{same_side, precedes, numbered, insert, without, row_of, renewed, resized, put, cut, settle}
+use Rattle.book.specs.Rows.{same_side, meets, precedes, numbered, insert, without, row_of, renewed, resized, put, cut, settle}
 use Rattle.book.specs.Trades.{trade_with}
 use Rattle.book.specs.Taking.{in_reach, amount, note, take, Has}
-use Rattle.trading.proofs.Sides.{Beyond, clash, decide, no_more_true, no_more_false, same_side_lem, same_self}
+use Rattle.trading.proofs.Sides.{Beyond, decide, no_more_true, no_more_false, same_side_lem, same_self}
 
 -- what a row is, without its moment
 pub data Role : Type 0 where
@@ -104,7 +104,7 @@ without_in n (x ∷ xs) f i =
 
 pub row_of_some : (n : ℕ) (xs : List Row) (r : Row) → row_of n xs ≡ Some r → (In (face r) xs) × (r.number ≡ n)
 unfolding found
-row_of_some n [] r e = let z : ◌≡◌ {A = ℕ} 0 1 = cc in absurd (omega arith)
+row_of_some n [] r e = cc
 row_of_some n (x ∷ xs) r e =
     decide (numbered n x)
     (λ t. let same : x ≡ r = cc in (inl (ap face (sym same)), sym (ap (λ (y : Row). y.number) same) ∙ eqb-true x.number n t))
@@ -115,7 +115,7 @@ unfolding found
 row_of_none n [] e f i z = i
 row_of_none n (x ∷ xs) e f i z =
     decide (numbered n x)
-    (λ t. let y : ◌≡◌ {A = ℕ} 0 1 = cc in omega arith)
+    (λ t. cc)
     (λ t. let later : row_of n xs ≡ None = cc in ⊎_elim (λ g. eqb-false x.number n t (sym (face_number g) ∙ z)) (λ g. row_of_none n xs later f g z) i)
 
 -- ---- the row itself
@@ -127,7 +127,7 @@ has_in r (x ∷ xs) (inr h) = inr (has_in r xs h)
 
 pub row_of_has : (n : ℕ) (xs : List Row) (r : Row) → row_of n xs ≡ Some r → Has r xs
 unfolding found
-row_of_has n [] r e = let z : ◌≡◌ {A = ℕ} 0 1 = cc in absurd (omega arith)
+row_of_has n [] r e = cc
 row_of_has n (x ∷ xs) r e =
     decide (numbered n x)
     (λ t. let same : x ≡ r = cc in inl (sym same))
@@ -270,19 +270,21 @@ take_left due t (r ∷ rs) n j =
 abbrev pub Clear : Taker → List Row → Type 0
 Clear t xs = (f : Face) → In f xs → f.series ≡ t.series → f.side ≡ opposite t.side → Beyond t.side f.display t.reach
 
--- a contra row of the taker's series is in its reach or beyond it
-pub reach_false : (t : Taker) (r : Row) → in_reach t r ≡ false → r.series ≡ t.series → r.side ≡ opposite t.side → Beyond t.side r.display t.reach
-reach_false t r e s o =
-    let a : eqb r.series t.series ≡ true = eq-eqb r.series t.series s in
-    let b : same_side r.side (opposite t.side) ≡ true = subst (λ (x : Side). same_side x (opposite t.side) ≡ true) (sym o) (same_self (opposite t.side)) in
-    no_more_false t.side r.display t.reach
-    (⊎_elim (λ x. absurd (clash _ a x)) (λ x. ⊎_elim (λ y. absurd (clash _ b y)) (λ y. y) (and_cases _ _ x)) (and_cases _ _ e))
+-- a contra row of the series is met, or lies beyond
+pub met_true : (s : ℕ) (side : Side) (p : ℕ) (q : Row) → meets s side p q ≡ true → (q.series ≡ s) × (q.side ≡ opposite side) × (no_more_aggressive side q.display p ≡ true)
+met_true s side p q e =
+    let a = and_parts (eqb q.series s) _ e in
+    let b = and_parts (same_side q.side (opposite side)) _ a.1 in
+    (eqb-true q.series s a.0, same_side_lem q.side (opposite side) b.0, b.1)
+
+pub met_false : (s : ℕ) (side : Side) (p : ℕ) (q : Row) → meets s side p q ≡ false → q.series ≡ s → q.side ≡ opposite side → Beyond side q.display p
+met_false s side p q n se si =
+    let a : eqb q.series s ≡ true = eq-eqb q.series s se in
+    let b : same_side q.side (opposite side) ≡ true = subst (λ (z : Side). same_side z (opposite side) ≡ true) (sym si) (same_self (opposite side)) in
+    no_more_false side q.display p (let z : no_more_aggressive side q.display p ≡ false = rw (a, b) at n in z)
 
 pub reach_true : (t : Taker) (r : Row) → in_reach t r ≡ true → (r.series ≡ t.series) × (r.side ≡ opposite t.side) × NoMoreAggressive t.side r.display t.reach
-reach_true t r e =
-    let a = and_parts (eqb r.series t.series) _ e in
-    let b = and_parts (same_side r.side (opposite t.side)) _ a.1 in
-    (eqb-true r.series t.series a.0, same_side_lem r.side (opposite t.side) b.0, no_more_true t.side r.display t.reach b.1)
+reach_true t r e = let m = met_true t.series t.side t.reach r e in (m.0, m.1, no_more_true t.side r.display t.reach m.2)
 
 pub amount_reach : (t : Taker) (n : ℕ) (r : Row) → 0 < amount t n r → in_reach t r ≡ true
 amount_reach t n r h = decide (in_reach t r) (λ e. e) (λ e. absurd (let z : amount t n r ≡ 0 = rw e in omega arith))
@@ -299,7 +301,7 @@ take_clear due t (r ∷ rs) n j p h f i s o =
     let all : q ≡ min n r.size = cond_true e in
     take_clear due t rs (n - q) j' p.1 h f (cut_gone due q r _ p.0 (omega arith) f i) s o)
     (λ e. ⊎_elim
-    (λ g. subst (λ (y : Face). Beyond t.side y.display t.reach) (sym g) (reach_false t r e (sym (face_series g) ∙ s) (sym (face_side g) ∙ o)))
+    (λ g. subst (λ (y : Face). Beyond t.side y.display t.reach) (sym g) (met_false t.series t.side t.reach r e (sym (face_series g) ∙ s) (sym (face_side g) ∙ o)))
     (λ g. take_clear due t rs (n - q) j' p.1 h f g s o)
     (cut_in due q r _ f i))
   where

@@ -8,42 +8,19 @@ use Rattle.trading.proofs.Faces.{Face, face, In, Within, without_in, row_of_some
 use Rattle.trading.specs.Doing.{count}
 use Rattle.trading.proofs.Resting.{highest_in}
 use Rattle.trading.proofs.Pulled.{count_without, pulled_within}
+use Rattle.trading.proofs.Steps.{pulled_keeps, each_pulled_keeps, pull_keeps}
 
 module _ (p : Row → Bool) where
-  found_in : (o : Option Row) (d : Desk) → Within (pull_found p o d).rows d.rows
-  found_in None d f i = i
-  found_in (Some r) d f i =
-      cond_both (p r) (record { rows = without r.number d.rows; journal = withdrawn r ∷ d.journal }) d (λ x. In f x.rows → In f d.rows)
-      (λ e h. (without_in r.number d.rows f h).0) (λ e h. h) i
-
   pub pull_in : (d : Desk) → Within (pull p d).rows d.rows
   unfolding pull
   pull_in d = pulled_within p (highest d.rows) d
 
   -- no test is met by more rows than before
-  found_count : (q : Row → Bool) (o : Option Row) (d : Desk) → count q (pull_found p o d).rows ≤ count q d.rows
-  found_count q None d = omega arith
-  found_count q (Some r) d =
-      cond_both (p r) (record { rows = without r.number d.rows; journal = withdrawn r ∷ d.journal }) d (λ x. count q x.rows ≤ count q d.rows)
-      (λ e. count_without q r.number d.rows) (λ e. omega arith)
-
-  each_count : (q : Row → Bool) (n : ℕ) (d : Desk) → count q (each_number n (pull_one p) d).rows ≤ count q d.rows
-  unfolding each_number pull_one
-  each_count q zero d = omega arith
-  each_count q (suc n) d = omega (arith, found_count q (row_of (suc n) (each_number n (pull_one p) d).rows) (each_number n (pull_one p) d), each_count q n d)
-
   pub pull_count : (q : Row → Bool) (d : Desk) → count q (pull p d).rows ≤ count q d.rows
-  unfolding pull
-  pull_count q d = each_count q (highest d.rows) d
-
-  found_distinct : (o : Option Row) (d : Desk) → Distinct d.rows → Distinct (pull_found p o d).rows
-  found_distinct None d u = u
-  found_distinct (Some r) d u = cond_both (p r) (record { rows = without r.number d.rows; journal = withdrawn r ∷ d.journal }) d (λ x. Distinct x.rows) (λ e. without_distinct r.number d.rows u) (λ e. u)
+  pull_count q d = pull_keeps (λ x. count q x.rows ≤ count q d.rows) p (λ r x h. omega (arith, count_without q r.number x.rows)) d (omega arith)
 
   each_distinct : (n : ℕ) (d : Desk) → Distinct d.rows → Distinct (each_number n (pull_one p) d).rows
-  unfolding each_number pull_one
-  each_distinct zero d u = u
-  each_distinct (suc n) d u = found_distinct (row_of (suc n) (each_number n (pull_one p) d).rows) (each_number n (pull_one p) d) (each_distinct n d u)
+  each_distinct = each_pulled_keeps (λ x. Distinct x.rows) p (λ r x u. without_distinct r.number x.rows u)
 
   -- a test that looks at the face alone
   module _ (t : Face → Bool) (same : (r : Row) → p r ≡ t (face r)) where
@@ -63,7 +40,7 @@ module _ (p : Row → Bool) where
         let d' = each_number n (pull_one p) d in
         ⊎_elim
         (λ e. found_gone (suc n) d' (each_distinct n d u) (row_of (suc n) d'.rows) refl f i e)
-        (λ e. each_gone n d u f (found_in (row_of (suc n) d'.rows) d' f i) (b.0, omega arith))
+        (λ e. each_gone n d u f (pulled_keeps (λ x. Within x.rows d'.rows) p (λ r x h g j. h g (without_in r.number x.rows g j).0) (row_of (suc n) d'.rows) d' (λ g j. j) f i) (b.0, omega arith))
         (cases_eq f.number (suc n))
 
     -- no row that p names is left

@@ -1,38 +1,38 @@
 -- What holds of the rows between calls holds after each operation.
-use Rattle.std.proofs.Common.{◌≡◌, ℕ, zero, suc, ◌+◌, ◌-◌, ◌<◌, ◌≤◌, Bool, true, eqb, ltb, List, [], ◌∷◌, Some, None, Option, sym, refl, subst, arith}
+use Rattle.std.proofs.Common.{◌≡◌, ℕ, zero, suc, ◌+◌, ◌-◌, ◌<◌, ◌≤◌, Bool, true, eqb, ltb, List, [], Some, None, Option, sym, refl, subst, arith}
 use Rattle.std.proofs.lemmas.Bool.{cond_both, and_parts, and_from, ltb-true, lt-ltb}
 use Rattle.collars.specs.declared.pricing.Pricing.{Pricing}
 use Rattle.collars.specs.Pricings.{reach_of, display_of, collar_of}
 use Rattle.book.specs.declared.row.Row.{Row}
 use Rattle.book.specs.declared.row.Standing.TheVariants.{Plain, Held}
-use Rattle.book.specs.Rows.{Sound, without, row_of}
+use Rattle.book.specs.Lists.{every}
+use Rattle.book.specs.Rows.{Sound}
 use Rattle.book.specs.Taking.{Fill, take}
 use Rattle.book.proofs.Takes.{take_fair}
 use Rattle.trading.specs.declared.ticket.Ticket.{Ticket}
-use Rattle.trading.specs.Desks.{Desk, highest, each_number, withdrawn, pull_found, pull_one, pull, second_after, taker, last_price, standing_by, row_for, rest_rows, rest, enter, enter_now}
+use Rattle.trading.specs.Desks.{Desk, highest, pull, second_after, taker, last_price, standing_by, row_for, rest_rows, rest, enter, enter_now, advance}
 use Rattle.trading.specs.Doing.{desk, displays_in_reach}
-use Rattle.trading.specs.Rests.{below, AtRest}
+use Rattle.trading.specs.declared.floor.Floor.{Floor}
+use Rattle.trading.specs.Floors.{rows_on}
+use Rattle.trading.specs.Rests.{below, in_series, AtRest}
 use Rattle.trading.proofs.Sides.{beyond_from}
 use Rattle.trading.proofs.Faces.{Face, In, take_in, take_clear}
 use Rattle.trading.proofs.Resting.{Sane, Holding, Others, Rested, insert_sane, insert_others, weaken, take_sane, serve_rested, pull_rested}
 use Rattle.trading.proofs.Timings.{DueIn, Timed, take_timed, insert_timed, without_timed, serve_timed}
-use Rattle.trading.proofs.Advanced.{highest_top, rest_from, rest_back}
+use Rattle.trading.proofs.Advanced.{highest_top, rest_from, rest_back, advance_rests}
 use Rattle.trading.proofs.Each.{every_has, every_from}
+use Rattle.trading.proofs.Placing.{pull_placed, advance_placed, enter_placed, enter_now_placed}
 use Rattle.trading.proofs.Entered.{display_within}
+use Rattle.trading.proofs.Steps.{pull_keeps}
+
+-- what a floor keeps of its rows
+abbrev pub Kept : ℕ → ℕ → List Row → Type 0
+Kept clock next rs = AtRest clock next rs × (every in_series rs ≡ true)
 
 -- ---- withdrawing
 
-pull_found_timed : (low high : ℕ) (p : Row → Bool) (o : Option Row) (d : Desk) → Timed low high d.rows → Timed low high (pull_found p o d).rows
-pull_found_timed low high p None d t = t
-pull_found_timed low high p (Some r) d t = cond_both (p r) (record { rows = without r.number d.rows; journal = withdrawn r ∷ d.journal }) d (λ x. Timed low high x.rows) (λ e. without_timed low high r.number d.rows t) (λ e. t)
-
 pub pull_timed : (low high : ℕ) (p : Row → Bool) (d : Desk) → Timed low high d.rows → Timed low high (pull p d).rows
-unfolding pull each_number pull_one
-pull_timed low high p d t = each (highest d.rows)
-  where
-    each : (n : ℕ) → Timed low high (each_number n (pull_one p) d).rows
-    each zero = t
-    each (suc n) = pull_found_timed low high p (row_of (suc n) (each_number n (pull_one p) d).rows) (each_number n (pull_one p) d) (each n)
+pull_timed low high p d = pull_keeps (λ x. Timed low high x.rows) p (λ r x t. without_timed low high r.number x.rows t) d
 
 pub pull_rests : (clock next : ℕ) (rs : List Row) (p : Row → Bool) → AtRest clock next rs → Sound rs → 1 ≤ next → AtRest clock next (pull p (desk rs)).rows
 pull_rests clock next rs p rest sound pos =
@@ -106,13 +106,6 @@ enter_now_rests clock next t rs rest sound pos =
     (weaken ((next + 1) - 1) (omega arith) sane, take_holding due t t.limit rs h.0.1)
     (take_timed clock (clock + 1000) due (omega arith) (omega arith) (taker t t.limit) rs t.size [] h.1)
 
--- the next number is above all
-pub rest_highest : (clock next : ℕ) (rs : List Row) → AtRest clock next rs → Sound rs → 1 ≤ next → highest rs < next
-rest_highest clock next rs rest sound pos =
-    let h = rest_from clock next rs rest sound in
-    let b = highest_top rs h.0.0 in
-    omega arith
-
 -- numbers below the next are below any later one
 pub rest_more : (clock next more : ℕ) (rs : List Row) → next ≤ more → AtRest clock next rs → AtRest clock more rs
 rest_more clock next more rs le rest = (
@@ -123,3 +116,25 @@ rest_more clock next more rs le rest = (
   rest.1,
   rest.2,
 )
+
+-- ---- on a floor
+
+module _ (f : Floor) where
+  -- the next number is above all
+  pub floor_numbers : highest (rows_on f) < f.next
+  floor_numbers =
+      let begun = f.begun in
+      let below : highest (rows_on f) < suc (f.next - 1) = highest_top (rows_on f) (rest_from f.clock f.next (rows_on f) f.rest f.book.resting.sound).0.0 in
+      omega arith
+
+  pub withdraw_keeps : (p : Row → Bool) {after : List Row} → after ≡ (pull p (desk (rows_on f))).rows → Kept f.clock f.next after
+  withdraw_keeps p e = rw e (pull_rests f.clock f.next (rows_on f) p f.rest f.book.resting.sound f.begun, pull_placed p (rows_on f) f.listed)
+
+  pub advance_keeps : (k : ℕ) {after : List Row} → f.clock ≤ k → k ≤ f.clock + 1000 → after ≡ (advance k (desk (rows_on f))).rows → Kept k f.next after
+  advance_keeps k le soon e = rw e (advance_rests f.clock k f.next (rows_on f) f.rest f.book.resting.sound f.begun le soon, advance_placed k (rows_on f) f.listed)
+
+  pub enter_keeps : (t : Ticket) (p : Pricing) {after : List Row} → t.number ≡ f.next → displays_in_reach t p ≡ true → t.series < 64 → after ≡ (enter (second_after f.clock) t p (desk (rows_on f))).rows → Kept f.clock (f.next + 1) after
+  enter_keeps t p n fits series e = rw e (enter_rests f.clock f.next t p (rows_on f) n f.rest f.book.resting.sound f.begun fits, enter_placed (second_after f.clock) t p (rows_on f) series f.listed)
+
+  pub enter_now_keeps : (t : Ticket) {after : List Row} → after ≡ (enter_now (second_after f.clock) t (desk (rows_on f))).rows → Kept f.clock (f.next + 1) after
+  enter_now_keeps t e = rw e (enter_now_rests f.clock f.next t (rows_on f) f.rest f.book.resting.sound f.begun, enter_now_placed (second_after f.clock) t (rows_on f) f.listed)

@@ -1,8 +1,10 @@
 pub mod Sides
 pub mod Faces
+pub mod Steps
 pub mod Resting
 pub mod Timings
 pub mod Volumes
+pub mod Adds
 pub mod Each
 pub mod Served
 pub mod Pulled

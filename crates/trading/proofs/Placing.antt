@@ -1,18 +1,14 @@
 -- Every row stays in its series: each operation keeps rows of one of 64 series.
-use Rattle.std.proofs.Common.{◌≡◌, ℕ, zero, suc, ◌<◌, Bool, true, leb, List, [], length, Some, None, Option, sym, refl, subst, ⊎_elim}
-use Rattle.std.proofs.lemmas.Bool.{ltb-true, lt-ltb, cond_both}
+use Rattle.std.proofs.Common.{◌≡◌, ℕ, zero, suc, ◌<◌, Bool, true, List, [], length, Some, None, Option, sym, refl, subst, ⊎_elim}
+use Rattle.std.proofs.lemmas.Bool.{ltb-true, lt-ltb}
 use Rattle.collars.specs.declared.pricing.Pricing.{Pricing}
 use Rattle.collars.specs.Pricings.{reach_of, display_of}
 use Rattle.book.specs.declared.row.Row.{Row}
-use Rattle.book.specs.declared.row.Standing.{Standing}
-use Rattle.book.specs.declared.row.Standing.TheVariants.{Plain, Held, Quote}
-use Rattle.book.specs.declared.row.Due.{Due}
 use Rattle.book.specs.Lists.{every}
 use Rattle.book.specs.Rows.{without, row_of, moved_to, moved_in}
-use Rattle.book.specs.Dues.{earliest}
 use Rattle.book.specs.Taking.{Fill, take}
 use Rattle.trading.specs.declared.ticket.Ticket.{Ticket}
-use Rattle.trading.specs.Desks.{Desk, highest, pull, second_after, move_on, move_standing, move_found, turn_found, turn, turns, advance, taker, last_price, row_for, show_first, rest_rows, rest, enter, enter_now, serve}
+use Rattle.trading.specs.Desks.{Desk, highest, pull, second_after, move_on, turn, turns, advance, taker, last_price, row_for, show_first, rest_rows, rest, enter, enter_now, serve}
 use Rattle.trading.specs.Journals.{noting}
 use Rattle.trading.specs.Doing.{desk}
 use Rattle.trading.specs.Rests.{in_series}
@@ -20,6 +16,7 @@ use Rattle.trading.proofs.Faces.{Face, face, face_series, In, has_in, take_in, i
 use Rattle.trading.proofs.Resting.{onwards, serve_within}
 use Rattle.trading.proofs.Each.{every_has, every_from, in_has}
 use Rattle.trading.proofs.Pulled.{pulled_within}
+use Rattle.trading.proofs.Steps.{turn_keeps, turns_keep}
 
 abbrev pub Placed : List Row → Type 0
 Placed xs = (f : Face) → In f xs → f.series < 64
@@ -47,26 +44,10 @@ move_placed r c moment d h f i = by (row_of r.number d.rows) refl i
         (insert_in (moved_to (onwards r c) (second_after moment) q) (without q.number d.rows) f i)
 
 turn_placed : (k : ℕ) (d : Desk) → Placed d.rows → Placed (turn k d).rows
-unfolding turn
-turn_placed k d h = by (earliest d.rows)
-  where
-    standing : (moment : ℕ) (x : Standing) (r : Row) → Placed (move_standing k moment x r d).rows
-    standing moment Plain r = h
-    standing moment (Held c m) r = λ f i. move_placed r c moment d h f (serve_within (second_after k) r.series (move_on r c moment d) f i)
-    standing moment (Quote q) r = h
-
-    found : (moment : ℕ) (o : Option Row) → Placed (move_found k moment o d).rows
-    found moment None = h
-    found moment (Some r) = standing moment r.standing r
-
-    by : (o : Option Due) → Placed (turn_found k o d).rows
-    by None = h
-    by (Some e) = cond_both (leb e.moment k) (move_found k e.moment (row_of e.number d.rows) d) d (λ x. Placed x.rows) (λ t. found e.moment (row_of e.number d.rows)) (λ t. h)
+turn_placed k d h = turn_keeps (λ x. Placed x.rows) k d (λ moment n r c m at how f i. move_placed r c moment d h f (serve_within (second_after k) r.series (move_on r c moment d) f i)) h
 
 turns_placed : (n k : ℕ) (d : Desk) → Placed d.rows → Placed (turns n k d).rows
-unfolding turns
-turns_placed zero k d h = h
-turns_placed (suc n) k d h = turns_placed n k (turn k d) (turn_placed k d h)
+turns_placed n k = turns_keep (λ x. Placed x.rows) k (turn_placed k) n
 
 pub advance_placed : (k : ℕ) (rs : List Row) → every in_series rs ≡ true → every in_series (advance k (desk rs)).rows ≡ true
 unfolding advance

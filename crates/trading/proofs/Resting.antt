@@ -1,18 +1,17 @@
 -- The rows of a desk throughout a call, and at rest: each held order has no contra row in its reach.
-use Rattle.std.proofs.Common.{◌≡◌, ℕ, zero, suc, ◌-◌, ◌<◌, ◌≤◌, Bool, eqb, ltb, leb, List, [], ◌∷◌, Some, None, Option, sym, refl, ap, ◌∙◌, subst, inl, inr, ⊎_elim, arith}
+use Rattle.std.proofs.Common.{◌≡◌, ℕ, zero, suc, ◌-◌, ◌<◌, ◌≤◌, Bool, eqb, ltb, List, [], ◌∷◌, Some, None, Option, sym, refl, ap, ◌∙◌, subst, inl, inr, ⊎_elim, arith}
 use Rattle.std.proofs.lemmas.Bool.{leb-true, leb-false, eqb-false, cond_both, cases_eq}
 use Rattle.values.specs.Sides.{opposite, onward}
 use Rattle.book.specs.declared.row.Row.{Row}
 use Rattle.book.specs.declared.row.Standing.{Standing}
 use Rattle.book.specs.declared.row.Standing.TheVariants.{Plain, Held, Quote}
-use Rattle.book.specs.declared.row.Due.{Due}
 use Rattle.book.specs.declared.row.Taker.{Taker}
 use Rattle.book.specs.Rows.{insert, without, row_of, moved_to}
-use Rattle.book.specs.Dues.{earliest}
 use Rattle.book.specs.Taking.{take, Has}
-use Rattle.trading.specs.Desks.{Desk, highest, each_number, taker_of, serve_row, serve_standing, serve_found, serve_one, serve, withdrawn, pull_found, pull_one, pull, second_after, move_on, move_standing, move_found, turn_found, turn, turns}
+use Rattle.trading.specs.Desks.{Desk, highest, each_number, taker_of, serve_row, serve_standing, serve_found, serve_one, serve, pull, second_after, move_on, turn, turns}
 use Rattle.trading.proofs.Sides.{Beyond, decide, not_opposite, opposite_back, beyond_back}
 use Rattle.trading.proofs.Faces.{Role, plain, held, quote, role_of, Face, face, face_number, face_series, In, Within, take_in, settle_in, insert_in, without_in, row_of_some, row_of_none, has_in, row_of_has, Positive, has_positive, take_positive, settle_positive, insert_positive, without_positive, Lacks, Distinct, take_distinct, settle_distinct, insert_distinct, without_distinct, unique, settle_gone, take_clear, take_has}
+use Rattle.trading.proofs.Steps.{each_served_keeps, pull_keeps, turn_keeps, turns_keep}
 
 -- two rows of one series and of opposite sides do not meet
 abbrev pub Apart : Face → Face → Type 0
@@ -165,22 +164,15 @@ highest_in [] f i = absurd i
 highest_in (x ∷ xs) f (inl e) = let n = face_number e in omega arith
 highest_in (x ∷ xs) f (inr i) = omega (arith, highest_in xs f i)
 
+pub highest_within : (xs ys : List Row) → Within xs ys → highest xs ≤ highest ys
+highest_within [] ys h = omega arith
+highest_within (x ∷ xs) ys h = omega (arith, highest_in ys (face x) (h (face x) (inl refl)), highest_within xs ys (λ f i. h f (inr i)))
+
 -- serving brings no row
 module _ (due s : ℕ) where
-  standing_within : (r : Row) (x : Standing) (d : Desk) → Within (serve_standing due x r d).rows d.rows
-  unfolding serve_row
-  standing_within r Plain d f i = i
-  standing_within r (Held c m) d f i = take_in due (taker_of r c) d.rows r.size [] f (settle_in due _ r.number _ f i)
-  standing_within r (Quote m) d f i = i
-
-  found_within : (o : Option Row) (d : Desk) → Within (serve_found due s o d).rows d.rows
-  found_within None d f i = i
-  found_within (Some r) d f i = cond_both (eqb r.series s) (serve_standing due r.standing r d) d (λ x. In f x.rows → In f d.rows) (λ z l. standing_within r r.standing d f l) (λ z l. l) i
-
   pub each_within : (n : ℕ) (d : Desk) → Within (each_number n (serve_one due s) d).rows d.rows
-  unfolding each_number serve_one
-  each_within zero d f i = i
-  each_within (suc n) d f i = each_within n d f (found_within (row_of (suc n) (each_number n (serve_one due s) d).rows) (each_number n (serve_one due s) d) f i)
+  unfolding serve_row
+  each_within n d = each_served_keeps (λ x. Within x.rows d.rows) due s (λ r c x h f i. h f (take_in due (taker_of r c) x.rows r.size [] f (settle_in due _ r.number _ f i))) n d (λ f i. i)
 
   pub serve_within : (d : Desk) → Within (serve due s d).rows d.rows
   unfolding serve
@@ -252,44 +244,19 @@ module _ {top : ℕ} (d : Desk) (ok : Rested top d.rows) (r : Row) (c m moment :
   pub move_on_others : Others r.series (move_on r c moment d).rows
   move_on_others = rw moved_rows (insert_others (moved_to (onwards r c) (second_after moment) r) (without r.number d.rows) (without_holding d.rows r.number ok.1))
 
-move_standing_lem : {top : ℕ} (d : Desk) (k moment : ℕ) → Rested top d.rows → (r : Row) → row_of r.number d.rows ≡ Some r → (x : Standing) → r.standing ≡ x → Rested top (move_standing k moment x r d).rows
-move_standing_lem d k moment ok r at Plain e = ok
-move_standing_lem d k moment ok r at (Held c m) e = serve_rested (move_on r c moment d) (second_after k) r.series (move_on_sane d ok r c m moment at e) (move_on_others d ok r c m moment at e)
-move_standing_lem d k moment ok r at (Quote q) e = ok
-
 pub row_of_itself : (n : ℕ) (xs : List Row) (r : Row) → row_of n xs ≡ Some r → row_of r.number xs ≡ Some r
 row_of_itself n xs r e = subst (λ (y : ℕ). row_of y xs ≡ Some r) (sym (row_of_some n xs r e).1) e
 
-pub move_found_lem : {top : ℕ} (d : Desk) (k moment n : ℕ) → Rested top d.rows → (o : Option Row) → row_of n d.rows ≡ o → Rested top (move_found k moment o d).rows
-move_found_lem d k moment n ok None e = ok
-move_found_lem d k moment n ok (Some r) e = move_standing_lem d k moment ok r (row_of_itself n d.rows r e) r.standing refl
-
 pub turn_rested : {top : ℕ} (d : Desk) (k : ℕ) → Rested top d.rows → Rested top (turn k d).rows
-unfolding turn
-turn_rested {top} d k ok = by (earliest d.rows)
-  where
-    by : (o : Option Due) → Rested top (turn_found k o d).rows
-    by None = ok
-    by (Some e) = cond_both (leb e.moment k) (move_found k e.moment (row_of e.number d.rows) d) d (λ x. Rested top x.rows) (λ z. move_found_lem d k e.moment e.number ok (row_of e.number d.rows) refl) (λ z. ok)
+turn_rested {top} d k ok =
+    turn_keeps (λ x. Rested top x.rows) k d
+    (λ moment n r c m e how. let at = row_of_itself n d.rows r e in serve_rested (move_on r c moment d) (second_after k) r.series (move_on_sane d ok r c m moment at how) (move_on_others d ok r c m moment at how))
+    ok
 
 pub turns_rested : {top : ℕ} (n k : ℕ) (d : Desk) → Rested top d.rows → Rested top (turns n k d).rows
-unfolding turns
-turns_rested zero k d ok = ok
-turns_rested (suc n) k d ok = turns_rested n k (turn k d) (turn_rested d k ok)
+turns_rested {top} n k = turns_keep (λ x. Rested top x.rows) k (λ d ok. turn_rested d k ok) n
 
 -- ---- rows are withdrawn
 
-pull_found_lem : {top : ℕ} (d : Desk) (p : Row → Bool) (o : Option Row) → Rested top d.rows → Rested top (pull_found p o d).rows
-pull_found_lem d p None ok = ok
-pull_found_lem {top} d p (Some r) ok =
-    cond_both (p r) (record { rows = without r.number d.rows; journal = withdrawn r ∷ d.journal }) d (λ x. Rested top x.rows)
-    (λ e. (without_sane r.number ok.0, without_holding d.rows r.number ok.1))
-    (λ e. ok)
-
 pub pull_rested : {top : ℕ} (d : Desk) (p : Row → Bool) → Rested top d.rows → Rested top (pull p d).rows
-unfolding pull each_number pull_one
-pull_rested {top} d p ok = each (highest d.rows)
-  where
-    each : (n : ℕ) → Rested top (each_number n (pull_one p) d).rows
-    each zero = ok
-    each (suc n) = pull_found_lem (each_number n (pull_one p) d) p (row_of (suc n) (each_number n (pull_one p) d).rows) (each n)
+pull_rested {top} d p = pull_keeps (λ x. Rested top x.rows) p (λ r x ok. (without_sane r.number ok.0, without_holding x.rows r.number ok.1)) d

@@ -1,42 +1,95 @@
 -- Serving in the code is serving by the definitions.
-use Rattle.std.proofs.Common.{◌≡◌, ℕ, ◌+◌, ◌-◌, ◌≤◌, true, false, eqb, leb, List, [], ◌++◌, length, Some, None, Option, sym, refl, ap, ◌∙◌, subst, arith}
-use Rattle.std.proofs.lemmas.Bool.{leb-true, and_parts, eqb-true, eq-eqb, cond_both}
+use Rattle.std.proofs.Common.{◌≡◌, ℕ, zero, suc, ◌+◌, ◌-◌, ◌<◌, ◌≤◌, true, false, eqb, List, [], ◌++◌, length, Some, None, Option, sym, refl, ap, ◌∙◌, subst, arith}
+use Rattle.std.proofs.lemmas.Bool.{and_parts, eqb-true, eq-eqb, cond_both}
+use Rattle.std.specs.Borrow.{MutBor}
 use Rattle.rolls.specs.declared.roll.Roll.{Roll}
 use Rattle.rolls.specs.Rolls.{Gains, room}
-use Rattle.rolls.proofs.Gaining.{gains_nothing, gains_then, room_after}
+use Rattle.rolls.proofs.Gaining.{room_after}
+use Rattle.book.specs.declared.book.Book.{Book}
 use Rattle.book.specs.declared.row.Row.{Row}
 use Rattle.book.specs.declared.row.Standing.{Standing}
 use Rattle.book.specs.declared.row.Standing.TheVariants.{Plain, Held, Quote}
 use Rattle.book.specs.declared.row.Trade.{Trade}
 use Rattle.book.specs.Rows.{Sound, row_of, settle, lowest, wanted_from}
 use Rattle.book.specs.Taking.{take, Took, Has}
-use Rattle.trading.specs.Journals.{Event, trades_of, noting}
+use Rattle.book.specs.Books.{rows}
+use Rattle.trading.specs.Journals.{trades_of, noting}
 use Rattle.trading.specs.Desks.{Desk, highest, each_number, taker_of, serve_row, serve_standing, serve_found, serve_one, serve}
 use Rattle.trading.specs.Doing.{desk, Trading, is_held, held_in}
+use Rattle.trading.specs.Pits.{Dealing}
 use Rattle.trading.proofs.Sides.{clash}
-use Rattle.trading.proofs.Faces.{has_in, Distinct}
-use Rattle.trading.proofs.Resting.{highest_in, each_within}
+use Rattle.trading.proofs.Faces.{take_in, settle_in}
+use Rattle.trading.proofs.Resting.{highest_within, each_within}
 use Rattle.trading.proofs.Timings.{row_of_of}
 use Rattle.trading.proofs.Volumes.{serve_fewer, trades_noted, reversed_length}
-use Rattle.trading.proofs.Each.{lowest_some, each_next, each_end, sound_positive, sound_distinct}
+use Rattle.trading.proofs.Adds.{Adds, adds_nothing, adds_if, adds_then, deals_nothing, deals_then}
+use Rattle.trading.proofs.Each.{Walk, walk_starts, walk_ends, walk_wanted, walk_number, walk_step, walk_next, sound_positive, sound_distinct}
 
--- one held order
-pub served : (due : ℕ) (r : Row) (c reach : ℕ) → reach ≡ (taker_of r c).reach → (rs mid after : List Row) (roll₀ roll : Roll Trade) (left : ℕ) → Took due (record { number = r.number; series = r.series; side = r.side; reach = reach }) r.size left rs mid roll₀ roll → after ≡ settle due (r.size - left) r.number mid → Trading after roll₀ roll (serve_row due r c (desk rs))
-unfolding serve_row
-served due r c reach at rs mid after roll₀ roll left by e =
-    let took : Took due (taker_of r c) r.size left rs mid roll₀ roll = subst (λ (x : ℕ). Took due (record { number = r.number; series = r.series; side = r.side; reach = x }) r.size left rs mid roll₀ roll) at by in
-    let f = take due (taker_of r c) r.size rs [] in
-    record {
-      rests = e ∙ (λ i. settle due (r.size - took.leaves i) r.number (took.rests i));
-      gains = subst (Gains roll₀ roll) (sym (trades_noted f.trades [])) took.gains;
-    }
+-- ---- serving goes by the rows alone, and notes its trades after the journal so far
 
--- the journal grows by what serving noted
-pub serve_noted : (due : ℕ) (r : Row) (c : ℕ) (d : Desk) → trades_of (serve_row due r c d).journal ≡ trades_of d.journal ++ trades_of (serve_row due r c (desk d.rows)).journal
-unfolding serve_row
-serve_noted due r c d =
-    let ts = (take due (taker_of r c) r.size d.rows []).trades in
-    trades_noted ts d.journal ∙ ap (λ (ys : List Trade). trades_of d.journal ++ ys) (sym (trades_noted ts []))
+module _ (due s : ℕ) where
+  pub standing_adds : (x : Standing) (r : Row) → Adds (serve_standing due x r)
+  unfolding serve_row
+  standing_adds Plain r d = adds_nothing d
+  standing_adds (Held c m) r d =
+      let ts = (take due (taker_of r c) r.size d.rows []).trades in
+      (refl, trades_noted ts d.journal ∙ ap (λ (ys : List Trade). trades_of d.journal ++ ys) (sym (trades_noted ts [])))
+  standing_adds (Quote k) r d = adds_nothing d
+
+  found_adds : (o : Option Row) → Adds (serve_found due s o)
+  found_adds None = adds_nothing
+  found_adds (Some r) = adds_if (eqb r.series s) (serve_standing due r.standing r) (standing_adds r.standing r)
+
+  one_adds : (n : ℕ) → Adds (serve_one due s n)
+  unfolding serve_one
+  one_adds n d = found_adds (row_of n d.rows) d
+
+  each_adds : (n : ℕ) → Adds (each_number n (serve_one due s))
+  unfolding each_number
+  each_adds zero = adds_nothing
+  each_adds (suc n) = adds_then (each_number n (serve_one due s)) (serve_one due s (suc n)) (each_adds n) (one_adds (suc n))
+
+  pub serve_adds : Adds (serve due s)
+  unfolding serve
+  serve_adds d = each_adds (highest d.rows) d
+
+-- ---- one held order
+
+module _ (due : ℕ) (r : Row) (c reach : ℕ) (at : reach ≡ (taker_of r c).reach) {rs mid after : List Row} {roll₀ roll : Roll Trade} {left : ℕ} (took : Took due (record { number = r.number; series = r.series; side = r.side; reach = reach }) r.size left rs mid roll₀ roll) (is : after ≡ settle due (r.size - left) r.number mid) where
+  pub row_served : Trading after roll₀ roll (serve_row due r c (desk rs))
+  unfolding serve_row
+  row_served =
+      let by : Took due (taker_of r c) r.size left rs mid roll₀ roll = subst (λ (x : ℕ). Took due (record { number = r.number; series = r.series; side = r.side; reach = x }) r.size left rs mid roll₀ roll) at took in
+      let f = take due (taker_of r c) r.size rs [] in
+      record {
+        rests = is ∙ (λ i. settle due (r.size - by.leaves i) r.number (by.rests i));
+        gains = subst (Gains roll₀ roll) (sym (trades_noted f.trades [])) by.gains;
+      }
+
+  pub standing_served : (m : ℕ) → r.standing ≡ Held c m → Trading after roll₀ roll (serve_standing due r.standing r (desk rs))
+  standing_served m how = by r.standing how
+    where
+      by : (x : Standing) → x ≡ Held c m → Trading after roll₀ roll (serve_standing due x r (desk rs))
+      by x e = rw e row_served
+
+  module _ (sound : Sound rs) (has : Has r rs) where
+    pub row_room : length rs ≤ room roll₀ → length after ≤ room roll
+    unfolding serve_row
+    row_room h =
+        let f = take due (taker_of r c) r.size rs [] in
+        let few = serve_fewer rs (sound_positive rs sound) (sound_distinct rs sound) due r c has in
+        let a : length after ≡ length (settle due (r.size - f.left) r.number f.rows) = ap length row_served.rests in
+        let g = room_after roll₀ roll _ row_served.gains in
+        let n : length (trades_of (noting f.trades [])) ≡ length f.trades = ap length (trades_noted f.trades []) ∙ reversed_length f.trades in
+        omega arith
+
+  pub row_numbers : {top : ℕ} → highest rs < top → highest after < top
+  unfolding serve_row
+  row_numbers h =
+      let f = take due (taker_of r c) r.size rs [] in
+      let a : highest after ≡ highest (settle due (r.size - f.left) r.number f.rows) = ap highest row_served.rests in
+      let b = highest_within (settle due (r.size - f.left) r.number f.rows) rs (λ x i. take_in due (taker_of r c) rs r.size [] x (settle_in due (r.size - f.left) r.number f.rows x i)) in
+      omega arith
 
 -- ---- the loop over the held orders of a series
 
@@ -54,98 +107,39 @@ module _ (due s : ℕ) where
       by None e = refl
       by (Some r) e = cond_both (eqb r.series s) (serve_standing due r.standing r d) d (λ x. x ≡ d) (λ z. standing r r.standing refl z (h r e)) (λ z. refl)
 
-  -- a held order of the series is served in its turn
-  one_served : (r : Row) (c m : ℕ) (d : Desk) → Distinct d.rows → Has r d.rows → r.standing ≡ Held c m → r.series ≡ s → serve_one due s r.number d ≡ serve_row due r c d
+  -- a row of the series in its turn
+  one_served : (r : Row) (d : Desk) → row_of r.number d.rows ≡ Some r → r.series ≡ s → serve_one due s r.number d ≡ serve_standing due r.standing r d
   unfolding serve_one
-  one_served r c m d u h e z =
-      let at : row_of r.number d.rows ≡ Some r = row_of_of r d.rows u h in
-      let q : eqb r.series s ≡ true = eq-eqb r.series s z in
-      rw (at, q, e)
+  one_served r d at z = let q : eqb r.series s ≡ true = eq-eqb r.series s z in rw (at, q)
 
   -- what holds while the loop goes on: the held orders numbered below `from` have been served
-  pub record Underway (rs₀ : List Row) (roll₀ : Roll Trade) (from : ℕ) (rs : List Row) (roll : Roll Trade) : Type 0 where
-    pub begun : 1 ≤ from
-    pub within : from ≤ highest rs₀ + 1
-    pub rests : rs ≡ (each_number (from - 1) (serve_one due s) (desk rs₀)).rows
-    pub gains : Gains roll₀ roll (trades_of (each_number (from - 1) (serve_one due s) (desk rs₀)).journal)
-    pub places : length rs ≤ room roll
+  pub record Serving (book₀ book : MutBor Book) (roll₀ roll : MutBor (Roll Trade)) (from : ℕ) : Type 0 where
+    pub walk : Walk (serve_one due s) (desk (rows book₀.now)) from (rows book.now)
+    pub did : Dealing book₀ book roll₀ roll (each_number (from - 1) (serve_one due s) (desk (rows book₀.now)))
 
-  pub serving_starts : (rs : List Row) (roll : Roll Trade) → length rs ≤ room roll → Underway rs roll 1 rs roll
+  pub serving_starts : (book : MutBor Book) (roll : MutBor (Roll Trade)) → Serving book book roll roll 1
   unfolding each_number
-  serving_starts rs roll h = record { begun = omega arith; within = omega arith; rests = refl; gains = gains_nothing roll; places = h }
+  serving_starts book roll = record { walk = walk_starts (serve_one due s) (desk (rows book.now)); did = deals_nothing book roll }
 
-  module _ {rs₀ : List Row} {roll₀ : Roll Trade} {from : ℕ} {rs : List Row} {roll : Roll Trade} (u : Underway rs₀ roll₀ from rs roll) (sound : Sound rs) where
-    done : Desk
-    done = each_number (from - 1) (serve_one due s) (desk rs₀)
+  module _ {book₀ book : MutBor Book} {roll₀ roll : MutBor (Roll Trade)} {from : ℕ} (u : Serving book₀ book roll₀ roll from) where
+    pub serving_ends : lowest (wanted_from (held_in s) from) (rows book.now) ≡ None → Dealing book₀ book roll₀ roll (serve due s (desk (rows book₀.now)))
+    unfolding serve
+    serving_ends e = subst (Dealing book₀ book roll₀ roll) (sym (walk_ends held_idle (each_within due s) u.walk e)) u.did
 
-    at_done : (o : Option Row) → lowest (wanted_from (held_in s) from) rs ≡ o → lowest (wanted_from (held_in s) ((from - 1) + 1)) done.rows ≡ o
-    unfolding done
-    at_done o e =
-        let b = u.begun in
-        let n : from ≡ (from - 1) + 1 = omega arith in
-        subst (λ (x : ℕ). lowest (wanted_from (held_in s) x) done.rows ≡ o) n (subst (λ (x : List Row). lowest (wanted_from (held_in s) from) x ≡ o) u.rests e)
+    module _ (r : Row) (e : lowest (wanted_from (held_in s) from) (rows book.now) ≡ Some r) where
+      pub serving_number : (from ≤ r.number) × (r.number ≤ highest (rows book₀.now))
+      serving_number = walk_number held_idle (each_within due s) u.walk r e
 
-    pub serving_ends : lowest (wanted_from (held_in s) from) rs ≡ None → Trading rs roll₀ roll (serve due s (desk rs₀))
-    unfolding serve done
-    serving_ends e =
-        let w = u.within in
-        let same : each_number (highest rs₀) (serve_one due s) (desk rs₀) ≡ done = each_end (serve_one due s) (held_in s) held_idle (desk rs₀) (from - 1) (highest rs₀) (omega arith) (at_done None e) in
-        record {
-          rests = u.rests ∙ ap (λ (d : Desk). d.rows) (sym same);
-          gains = subst (λ (d : Desk). Gains roll₀ roll (trades_of d.journal)) (sym same) u.gains;
-        }
+      pub serving_at : row_of r.number (rows book.now) ≡ Some r
+      serving_at = row_of_of r (rows book.now) (sound_distinct (rows book.now) book.now.resting.sound) (walk_wanted held_idle (each_within due s) u.walk r e).0
 
-    served_next : (r : Row) (c m : ℕ) (rs' : List Row) (roll' : Roll Trade) → lowest (wanted_from (held_in s) from) rs ≡ Some r → r.standing ≡ Held c m → Trading rs' roll roll' (serve_row due r c (desk rs)) → Underway rs₀ roll₀ (r.number + 1) rs' roll'
-    unfolding done serve_row
-    served_next r c m rs' roll' e how did =
-        let low = lowest_some (wanted_from (held_in s) from) rs r e in
-        let p = and_parts (leb from r.number) (held_in s r) low.passes in
-        let from_le = leb-true from r.number p.0 in
-        let series : r.series ≡ s = eqb-true r.series s (and_parts (eqb r.series s) (is_held r.standing) p.1).0 in
-        let has : Has r done.rows = subst (Has r) u.rests low.there in
-        let distinct : Distinct done.rows = subst Distinct u.rests (sound_distinct rs sound) in
-        let step : each_number r.number (serve_one due s) (desk rs₀) ≡ serve_row due r c done = each_next (serve_one due s) (held_in s) held_idle (desk rs₀) (from - 1) r (at_done (Some r) e) ∙ one_served r c m done distinct has how series in
-        let back : (r.number + 1) - 1 ≡ r.number = omega arith in
-        let mine : each_number ((r.number + 1) - 1) (serve_one due s) (desk rs₀) ≡ serve_row due r c done = ap (λ (n : ℕ). each_number n (serve_one due s) (desk rs₀)) back ∙ step in
-        let same_rows : (serve_row due r c (desk rs)).rows ≡ (serve_row due r c done).rows = rows_of rs done.rows done.journal u.rests in
-        let few = serve_fewer rs (sound_positive rs sound) (sound_distinct rs sound) due r c low.there in
-        let b = u.begun in
-        record {
-          begun = omega arith;
-          within = omega (arith, highest_in rs₀ _ (each_within due s (from - 1) (desk rs₀) _ (has_in r done.rows has)));
-          rests = did.rests ∙ same_rows ∙ ap (λ (d : Desk). d.rows) (sym mine);
-          gains = subst (λ (d : Desk). Gains roll₀ roll' (trades_of d.journal)) (sym mine)
-              (subst (Gains roll₀ roll') (sym (serve_noted due r c done ∙ ap (λ (x : List Row). trades_of done.journal ++ trades_of (serve_row due r c (desk x)).journal) (sym u.rests)))
-              (gains_then roll₀ roll roll' _ _ u.gains did.gains));
-          places = fits few;
-        }
-      where
-        rows_of : (xs ys : List Row) (j : List Event) → xs ≡ ys → (serve_row due r c (desk xs)).rows ≡ (serve_row due r c (record { rows = ys; journal = j })).rows
-        rows_of xs ys j z = rw z
-
-        fits : (let f = take due (taker_of r c) r.size rs [] in length f.trades + length (settle due (r.size - f.left) r.number f.rows) ≤ length rs) → length rs' ≤ room roll'
-        fits few =
-            let f = take due (taker_of r c) r.size rs [] in
-            let a : length rs' ≡ length (settle due (r.size - f.left) r.number f.rows) = ap length did.rests in
-            let g = room_after roll roll' _ did.gains in
-            let n : length (trades_of (noting f.trades [])) ≡ length f.trades = ap length (trades_noted f.trades []) ∙ reversed_length f.trades in
-            let h = u.places in
-            omega arith
-
-    pub serving_next : (r : Row) (rs' : List Row) (roll' : Roll Trade) → lowest (wanted_from (held_in s) from) rs ≡ Some r → Trading rs' roll roll' (serve_standing due r.standing r (desk rs)) → Underway rs₀ roll₀ (r.number + 1) rs' roll'
-    serving_next r rs' roll' e did = by r.standing refl did
-      where
-        wanted : is_held r.standing ≡ true
-        wanted = (and_parts (eqb r.series s) (is_held r.standing) (and_parts (leb from r.number) (held_in s r) (lowest_some (wanted_from (held_in s) from) rs r e).passes).1).1
-
-        by : (x : Standing) → r.standing ≡ x → Trading rs' roll roll' (serve_standing due x r (desk rs)) → Underway rs₀ roll₀ (r.number + 1) rs' roll'
-        by Plain h d = absurd (clash false (sym (ap is_held h) ∙ wanted) refl)
-        by (Held c m) h d = served_next r c m rs' roll' e h d
-        by (Quote k) h d = absurd (clash false (sym (ap is_held h) ∙ wanted) refl)
-
-    pub serving_number : (r : Row) → lowest (wanted_from (held_in s) from) rs ≡ Some r → (from ≤ r.number) × (r.number ≤ highest rs₀)
-    serving_number r e =
-        let low = lowest_some (wanted_from (held_in s) from) rs r e in (
-          leb-true from r.number (and_parts (leb from r.number) (held_in s r) low.passes).0,
-          highest_in rs₀ _ (each_within due s (from - 1) (desk rs₀) _ (has_in r _ (subst (Has r) u.rests low.there))),
-        )
+      pub serving_next : {book' : MutBor Book} {roll' : MutBor (Roll Trade)} → Dealing book book' roll roll' (serve_standing due r.standing r (desk (rows book.now))) → Serving book₀ book' roll₀ roll' (r.number + 1)
+      serving_next {book'} {roll'} did =
+          let done = each_number (from - 1) (serve_one due s) (desk (rows book₀.now)) in
+          let series : r.series ≡ s = eqb-true r.series s (and_parts (eqb r.series s) (is_held r.standing) (walk_wanted held_idle (each_within due s) u.walk r e).1).0 in
+          let at : row_of r.number done.rows ≡ Some r = subst (λ (x : List Row). row_of r.number x ≡ Some r) u.walk.rests serving_at in
+          let now : Dealing book₀ book' roll₀ roll' (serve_one due s r.number done) = subst (Dealing book₀ book' roll₀ roll') (sym (one_served r done at series)) (deals_then (serve_standing due r.standing r) (standing_adds due s r.standing r) done u.did did) in
+          record {
+            walk = walk_next held_idle (each_within due s) u.walk r e now.did.rests;
+            did = subst (Dealing book₀ book' roll₀ roll') (sym (walk_step held_idle (each_within due s) u.walk r e)) now;
+          }

@@ -13,7 +13,7 @@ Beyond Sell p q = p < q
 
 -- nothing is both
 pub clash : (b : Bool) → b ≡ true → b ≡ false → ⊥
-clash b p q = let z : ◌≡◌ {A = ℕ} 0 1 = cc in omega arith
+clash b p q = cc
 
 pub decide : {P : Type 0} (b : Bool) → (b ≡ true → P) → (b ≡ false → P) → P
 decide true f g = f refl
@@ -54,8 +54,8 @@ onward_on Sell p c l h = omega arith
 
 pub same_side_lem : (s t : Side) → same_side s t ≡ true → s ≡ t
 same_side_lem Buy Buy e = refl
-same_side_lem Buy Sell e = absurd (clash false e refl)
-same_side_lem Sell Buy e = absurd (clash false e refl)
+same_side_lem Buy Sell e = cc
+same_side_lem Sell Buy e = cc
 same_side_lem Sell Sell e = refl
 
 pub same_self : (s : Side) → same_side s s ≡ true
@@ -63,17 +63,17 @@ same_self Buy = refl
 same_self Sell = refl
 
 pub not_opposite : (s : Side) → s ≡ opposite s → ⊥
-not_opposite Buy e = let z : ◌≡◌ {A = ℕ} 0 1 = cc in omega arith
-not_opposite Sell e = let z : ◌≡◌ {A = ℕ} 0 1 = cc in omega arith
+not_opposite Buy e = cc
+not_opposite Sell e = cc
 
 pub opposite_back : (s t : Side) → s ≡ opposite t → t ≡ opposite s
-opposite_back Buy Buy e = absurd (not_opposite Buy e)
+opposite_back Buy Buy e = cc
 opposite_back Buy Sell e = refl
 opposite_back Sell Buy e = refl
-opposite_back Sell Sell e = absurd (not_opposite Sell e)
+opposite_back Sell Sell e = cc
 
 pub beyond_back : (s t : Side) (p q : ℕ) → t ≡ opposite s → Beyond s p q → Beyond t q p
-beyond_back Buy Buy p q e h = absurd (not_opposite Buy e)
+beyond_back Buy Buy p q e h = cc
 beyond_back Buy Sell p q e h = omega arith
 beyond_back Sell Buy p q e h = omega arith
-beyond_back Sell Sell p q e h = absurd (not_opposite Sell e)
+beyond_back Sell Sell p q e h = cc

@@ -12,10 +12,11 @@ use Rattle.book.specs.Rows.{precedes, numbered, insert, without, row_of, renewed
 use Rattle.book.specs.Dues.{due_at, sooner, soonest, earliest}
 use Rattle.book.specs.Trades.{trade_with}
 use Rattle.book.specs.Taking.{amount, note, take, Has}
-use Rattle.trading.specs.Desks.{Desk, highest, each_number, taker_of, serve_row, serve_standing, serve_found, serve_one, serve, second_after, move_on, move_standing, move_found, turn_found, turn, turns}
+use Rattle.trading.specs.Desks.{Desk, taker_of, serve_row, serve, second_after, move_on, move_standing, move_found, turn_found, turn, turns}
 use Rattle.trading.proofs.Sides.{decide}
 use Rattle.trading.proofs.Faces.{face, has_in, row_of_has, row_of_some, row_of_none, Distinct}
 use Rattle.trading.proofs.Resting.{Rested, onwards, moved_rows, turn_rested}
+use Rattle.trading.proofs.Steps.{serve_keeps}
 
 -- ---- how many rows are due at a moment
 
@@ -122,13 +123,13 @@ soonest_some x xs e (Quote m) h o below w = first_more x xs e (below e w)
 
 pub earliest_some : (xs : List Row) (e : Due) → earliest xs ≡ Some e → First xs e
 unfolding earliest
-earliest_some [] e w = absurd (let z : ◌≡◌ {A = ℕ} 0 1 = cc in omega arith)
+earliest_some [] e w = cc
 earliest_some (x ∷ xs) e w = soonest_some x xs e x.standing refl (earliest xs) (λ q g. earliest_some xs q g) w
 
 soonest_none : (k : ℕ) (x : Row) (xs : List Row) (s : Standing) → x.standing ≡ s → (o : Option Due) → (o ≡ None → due_count k xs ≡ 0) → soonest s x.number o ≡ None → due_count k (x ∷ xs) ≡ 0
 soonest_none k x xs Plain h o below w = let z : due_one k x ≡ 0 = rw h in omega (arith, below w)
-soonest_none k x xs (Held c d) h None below w = absurd (let z : ◌≡◌ {A = ℕ} 0 1 = cc in omega arith)
-soonest_none k x xs (Held c d) h (Some q) below w = absurd (let z : ◌≡◌ {A = ℕ} 0 1 = cc in omega arith)
+soonest_none k x xs (Held c d) h None below w = cc
+soonest_none k x xs (Held c d) h (Some q) below w = cc
 soonest_none k x xs (Quote m) h o below w = let z : due_one k x ≡ 0 = rw h in omega (arith, below w)
 
 -- where nobody is held nobody is due
@@ -229,22 +230,8 @@ module _ (low high : ℕ) where
     unfolding serve_row
     serve_row_timed r c d h = settle_timed _ r.number _ (take_timed (taker_of r c) d.rows r.size [] h)
 
-    timed_standing : (r : Row) (x : Standing) (d : Desk) → Timed low high d.rows → Timed low high (serve_standing due x r d).rows
-    timed_standing r Plain d h = h
-    timed_standing r (Held c m) d h = serve_row_timed r c d h
-    timed_standing r (Quote m) d h = h
-
-    timed_found : (s : ℕ) (o : Option Row) (d : Desk) → Timed low high d.rows → Timed low high (serve_found due s o d).rows
-    timed_found s None d h = h
-    timed_found s (Some r) d h = cond_both (eqb r.series s) (serve_standing due r.standing r d) d (λ x. Timed low high x.rows) (λ z. timed_standing r r.standing d h) (λ z. h)
-
     pub serve_timed : (s : ℕ) (d : Desk) → Timed low high d.rows → Timed low high (serve due s d).rows
-    unfolding serve each_number serve_one
-    serve_timed s d h = each (highest d.rows)
-      where
-        each : (n : ℕ) → Timed low high (each_number n (serve_one due s) d).rows
-        each zero = h
-        each (suc n) = timed_found s (row_of (suc n) (each_number n (serve_one due s) d).rows) (each_number n (serve_one due s) d) (each n)
+    serve_timed s d = serve_keeps (λ x. Timed low high x.rows) due s serve_row_timed d
 
 -- ---- serving makes nobody due
 
@@ -255,22 +242,8 @@ module _ (due k : ℕ) (after : k < due) where
       let f = take due (taker_of r c) r.size d.rows [] in
       omega (arith, settle_due due k after (r.size - f.left) r.number f.rows, take_due due k after (taker_of r c) d.rows r.size [])
 
-  due_standing : (r : Row) (x : Standing) (d : Desk) → due_count k (serve_standing due x r d).rows ≤ due_count k d.rows
-  due_standing r Plain d = omega arith
-  due_standing r (Held c m) d = serve_row_due r c d
-  due_standing r (Quote m) d = omega arith
-
-  due_found : (s : ℕ) (o : Option Row) (d : Desk) → due_count k (serve_found due s o d).rows ≤ due_count k d.rows
-  due_found s None d = omega arith
-  due_found s (Some r) d = cond_both (eqb r.series s) (serve_standing due r.standing r d) d (λ x. due_count k x.rows ≤ due_count k d.rows) (λ z. due_standing r r.standing d) (λ z. omega arith)
-
   pub serve_due : (s : ℕ) (d : Desk) → due_count k (serve due s d).rows ≤ due_count k d.rows
-  unfolding serve each_number serve_one
-  serve_due s d = each (highest d.rows)
-    where
-      each : (n : ℕ) → due_count k (each_number n (serve_one due s) d).rows ≤ due_count k d.rows
-      each zero = omega arith
-      each (suc n) = omega (arith, due_found s (row_of (suc n) (each_number n (serve_one due s) d).rows) (each_number n (serve_one due s) d), each n)
+  serve_due s d = serve_keeps (λ x. due_count k x.rows ≤ due_count k d.rows) due s (λ r c x h. omega (arith, serve_row_due r c x)) d (omega arith)
 
 -- ---- a turn of the clock
 

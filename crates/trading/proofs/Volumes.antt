@@ -1,6 +1,7 @@
 -- How many trades serving makes: each of them but one takes a row away.
-use Rattle.std.proofs.Common.{◌≡◌, ℕ, zero, suc, ◌+◌, ◌-◌, ◌<◌, ◌≤◌, min, true, false, ltb, List, [], ◌∷◌, ◌++◌, reverse, length, sym, refl, ap, ◌∙◌, subst, inl, inr, append_assoc, append-nil, arith, length-append}
+use Rattle.std.proofs.Common.{◌≡◌, ℕ, zero, suc, ◌+◌, ◌-◌, ◌<◌, ◌≤◌, min, true, false, ltb, List, [], ◌∷◌, ◌++◌, reverse, length, sym, refl, ap, ◌∙◌, subst, inl, inr, append_assoc, append-nil, arith}
 use mathlib.Core.List.{reverse-cons}
+use Rattle.std.proofs.lemmas.List.{length-reverse}
 use Rattle.std.proofs.lemmas.Bool.{leb-true, leb-false, eqb-true, eqb-false, cond_both}
 use Rattle.book.specs.declared.row.Row.{Row}
 use Rattle.book.specs.declared.row.Taker.{Taker}
@@ -106,5 +107,4 @@ withdrawals_noted [] j = refl
 withdrawals_noted (t ∷ ts) j = withdrawals_noted ts j
 
 pub reversed_length : (ts : List Trade) → length (reverse ts) ≡ length ts
-reversed_length [] = refl
-reversed_length (t ∷ ts) = ap length (reverse-cons t ts) ∙ length-append (reverse ts) (t ∷ []) ∙ (let h = reversed_length ts in omega arith)
+reversed_length = length-reverse

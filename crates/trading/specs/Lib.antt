@@ -1,5 +1,6 @@
 pub mod Journals
 pub mod Desks
 pub mod Doing
+pub mod Pits
 pub mod Rests
 pub mod Floors

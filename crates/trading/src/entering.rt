@@ -8,8 +8,9 @@ ghost use Rattle.collars.specs.Pricings.{display_of};
 ghost use Rattle.trading.specs.Journals.{withdrawals_of};
 ghost use Rattle.trading.specs.Desks.{highest, taker, last_price, held_at, standing_of, row_for, rest_rows, enter, lapse, enter_now};
 ghost use Rattle.trading.specs.Doing.{desk, Trading, Withdrawing, rivals, displays_in_reach};
+ghost use Rattle.trading.specs.Pits.{rows_in, desk_in, Deals};
 
-use crate::serving::serve;
+use crate::pit::Pit;
 use crate::ticket::Ticket;
 use book::book::Book;
 use book::row::{Row, Standing, Taker, Trade, Withdrawal};
@@ -21,39 +22,10 @@ use values::side::Price;
 fn last_price(trades: &Roll<Trade>, before: usize) -> Option<Price>
     ensures { result ≡ last_price (reverse (drop before (filled trades.now))) }
 {
-    let rows = trades.rows();
-    if rows.len() > before {
-        Some(rows[rows.len() - 1].price)
-    } else {
-        None
-    }
+    trades.rows().get(before..)?.last().map(|trade| trade.price)
 }
 
-// What a balance rests as: a maker's quote, or an order, which is held where it is collared and displays short of its limit.
-fn standing_of(ticket: Ticket, pricing: Pricing, display: Price, due: u32) -> Standing
-    ensures { result ≡ standing_of due ticket pricing display }
-{
-    match (ticket.maker, pricing.collar()) {
-        (Some(maker), _) => Standing::Quote { maker },
-        (None, Some(collar)) if display != ticket.limit => Standing::Held { collar, due },
-        (None, _) => Standing::Plain,
-    }
-}
-
-fn row_for(ticket: Ticket, pricing: Pricing, display: Price, size: u32, due: u32) -> Row
-    ensures { result ≡ row_for due ticket pricing display size }
-{
-    Row {
-        number: ticket.number,
-        series: ticket.series,
-        side: ticket.side,
-        display,
-        limit: ticket.limit,
-        size,
-        standing: standing_of(ticket, pricing, display, due),
-    }
-}
-
+// It trades up to a price.
 fn taker_of(ticket: Ticket, reach: Price) -> Taker
     ensures { result ≡ taker ticket reach }
 {
@@ -65,36 +37,84 @@ fn taker_of(ticket: Ticket, reach: Price) -> Taker
     }
 }
 
-// The balance of `left` contracts, if any, rests; `last` is the price of its last trade.
-fn rest(book: &mut Book, ticket: Ticket, pricing: Pricing, last: Option<Price>, left: u32, due: u32)
-    requires room { 0 < left → length (rows book.old) < 256 }
-    requires fits { 0 < left → every (agrees (row_for due ticket pricing (display_of pricing last) left)) (rows book.old) ≡ true }
-    ensures { rows book.new ≡ rest_rows due ticket pricing last (rows book.old) left }
-{
-    if left > 0 {
-        let display = pricing.display(last);
-        book.insert(row_for(ticket, pricing, display, left, due));
+// An order or quote as it arrives, and the moment at which it falls due if it is held.
+#[derive(Clone, Copy)]
+struct Arrival {
+    ticket: Ticket,
+    pricing: Pricing,
+    due: u32,
+}
+
+impl Arrival {
+    // What its balance rests as: a quote, or an order, which is held where it is collared and displays short of its limit.
+    fn standing(&self, display: Price) -> Standing
+        ensures { result ≡ standing_of self.now.due self.now.ticket self.now.pricing display }
+    {
+        match (self.ticket.maker, self.pricing.collar()) {
+            (Some(maker), _) => Standing::Quote { maker },
+            (None, Some(collar)) if display != self.ticket.limit => Standing::Held {
+                collar,
+                due: self.due,
+            },
+            (None, _) => Standing::Plain,
+        }
+    }
+
+    // The row of its balance.
+    fn row(&self, display: Price, size: u32) -> Row
+        ensures { result ≡ row_for self.now.due self.now.ticket self.now.pricing display size }
+    {
+        Row {
+            number: self.ticket.number,
+            series: self.ticket.series,
+            side: self.ticket.side,
+            display,
+            limit: self.ticket.limit,
+            size,
+            standing: self.standing(display),
+        }
+    }
+
+    // Its balance of `left` contracts, if any, rests; `last` is the price of its last trade.
+    fn rest(&self, book: &mut Book, last: Option<Price>, left: u32)
+        requires room { 0 < left → length (rows book.old) < 256 }
+        requires fits { 0 < left → every (agrees (row_for self.now.due self.now.ticket self.now.pricing (display_of self.now.pricing last) left)) (rows book.old) ≡ true }
+        ensures { rows book.new ≡ rest_rows self.now.due self.now.ticket self.now.pricing last (rows book.old) left }
+    {
+        if left > 0 {
+            let display = self.pricing.display(last);
+            book.insert(self.row(display, left));
+        }
     }
 }
 
-// It trades within its reach, its balance rests, and its series is served. A held order that trades is due at `due`.
-pub fn enter(book: &mut Book, ticket: Ticket, pricing: Pricing, due: u32, trades: &mut Roll<Trade>)
-    requires place { length (rows book.old) < 256 }
-    requires room { length (rows book.old) < room trades.old }
-    requires numbers { highest (rows book.old) < ticket.number }
-    requires number { ticket.number < 1000000 }
-    requires quotes { every (λ r. not (rivals ticket r)) (rows book.old) ≡ true }
-    requires reach { displays_in_reach ticket pricing ≡ true }
-    ensures { Trading (rows book.new) trades.old trades.new (enter due ticket pricing (desk (rows book.old))) }
-{
-    let before = trades.rows().len();
-    let left = book.take(taker_of(ticket, pricing.reach()), ticket.size, due, trades);
-    let last = last_price(trades, before);
-    rest(book, ticket, pricing, last, left, due);
-    serve(book, ticket.series, due, trades);
+impl Pit<'_, '_> {
+    // It trades within its reach, its balance rests, and its series is served. A held order that trades is due at `due`.
+    pub fn enter(&mut self, ticket: Ticket, pricing: Pricing, due: u32)
+        requires place { length (rows_in self.old) < 256 }
+        requires room { length (rows_in self.old) < room self.old.trades.now }
+        requires numbers { highest (rows_in self.old) < ticket.number }
+        requires number { ticket.number < 1000000 }
+        requires quotes { every (λ r. not (rivals ticket r)) (rows_in self.old) ≡ true }
+        requires reach { displays_in_reach ticket pricing ≡ true }
+        ensures { Deals self.old self.new (enter due ticket pricing (desk_in self.old)) }
+    {
+        let before = self.trades.rows().len();
+        let taker = taker_of(ticket, pricing.reach());
+        let left = self.book.take(taker, ticket.size, due, self.trades);
+        let last = last_price(self.trades, before);
+        let arrival = Arrival {
+            ticket,
+            pricing,
+            due,
+        };
+        arrival.rest(self.book, last, left);
+        self.serve(ticket.series, due);
+    }
 }
 
 // An immediate order trades up to its limit, and what is left of it is withdrawn.
+// (In no pit: nobody is served, so it asks nothing of the rows' numbers.)
 pub fn enter_now(
     book: &mut Book,
     ticket: Ticket,

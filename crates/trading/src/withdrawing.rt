@@ -10,7 +10,8 @@ use book::places::Wanted;
 use book::row::{Row, Withdrawal};
 use rolls::roll::Roll;
 
-// Withdraws every row that is wanted, the lowest number first.
+// Withdraws every row that is wanted, the lowest number first. (It goes by number as `Pit::serve` does: one loop for both would take a
+// closure, and its contract would have to say what each call leaves of the book.)
 pub fn withdraw_all<W: Wanted<Row>>(book: &mut Book, wanted: &W, withdrawals: &mut Roll<Withdrawal>)
     requires room { count (W.wants wanted.now) (rows book.old) ≤ room withdrawals.old }
     requires numbers { highest (rows book.old) < 1000000 }
@@ -18,11 +19,8 @@ pub fn withdraw_all<W: Wanted<Row>>(book: &mut Book, wanted: &W, withdrawals: &m
 {
     let mut from = 1;
     while let Some(row) = book.lowest(from, wanted) {
-        let _ = book.withdraw(row.number);
-        withdrawals.push(Withdrawal {
-            number: row.number,
-            left: row.size,
-        });
+        book.withdraw(row.number);
+        withdrawals.push(row.withdrawal());
         from = row.number + 1;
     }
 }

@@ -8,10 +8,11 @@ ghost use Rattle.trading.specs.Desks.{pull, second_after, advance, enter, enter_
 ghost use Rattle.trading.specs.Doing.{desk, Trading, Withdrawing, count, rivals, displays_in_reach};
 ghost use Rattle.trading.specs.Floors.{rows_on, Leaves};
 
+use crate::entering;
 use crate::floor::Floor;
+use crate::pit::Pit;
 use crate::ticket::Ticket;
 use crate::withdrawing::withdraw_all;
-use crate::{advancing, entering};
 use book::book::Book;
 use book::places::Wanted;
 use book::row::{Row, Trade, Withdrawal};
@@ -84,7 +85,11 @@ impl Floor {
         ensures leaves { Leaves self.new (self.old.clock + ms) self.old.next }
     {
         let clock = self.clock + ms;
-        advancing::advance(&mut self.book, clock, trades);
+        let mut pit = Pit {
+            book: &mut self.book,
+            trades,
+        };
+        pit.advance(clock);
         self.clock = clock;
     }
 
@@ -100,7 +105,11 @@ impl Floor {
         ensures did { Trading (rows_on self.new) trades.old trades.new (enter (second_after self.old.clock) ticket pricing (desk (rows_on self.old))) }
         ensures leaves { Leaves self.new self.old.clock (self.old.next + 1) }
     {
-        entering::enter(&mut self.book, ticket, pricing, self.clock + 1_000, trades);
+        let mut pit = Pit {
+            book: &mut self.book,
+            trades,
+        };
+        pit.enter(ticket, pricing, self.clock + 1_000);
         self.next += 1;
     }
 

@@ -1,27 +1,20 @@
-use Rattle.std.proofs.Common.{◌≡◌, ◌+◌, true, List, sym, subst, arith}
-use Rattle.book.specs.declared.row.Row.{Row}
-use Rattle.book.specs.Lists.{every}
-use Rattle.book.specs.Books.{rows}
-use Rattle.trading.specs.Rests.{AtRest, in_series}
-use Rattle.trading.proofs.Advanced.{advance_rests}
-use Rattle.trading.proofs.Keeping.{rest_more}
-use Rattle.trading.proofs.Placing.{advance_placed}
+use Rattle.std.proofs.Common.{◌+◌, arith}
+use Rattle.trading.specs.Floors.{rows_on}
+use Rattle.trading.proofs.Keeping.{rest_more, floor_numbers, advance_keeps}
 use Rattle.trading.proofs.floor.Floor.advance.Goals as goal
 
-pub advance-requires : goal.advance-requires
-advance-requires c =
+pub invariant_of-pit-clause-numbers : goal.invariant_of-pit-clause-numbers
+invariant_of-pit-clause-numbers c = let f = c.args.self.now in omega (arith, floor_numbers f, f.ended)
+
+pub advance-requires-clause-rest : goal.advance-requires-clause-rest
+advance-requires-clause-rest c =
     let f = c.args.self.now in
     let step = c.requires.step in
-    record { room = c.requires.room; clock = c.requires.end; rest = (f.clock, rest_more f.clock f.next 1000000 (rows f.book) f.ended f.rest, omega arith, omega arith) }
+    (f.clock, rest_more f.clock f.next 1000000 (rows_on f) f.ended f.rest, omega arith, omega arith)
 
 pub invariant_of-self : goal.invariant_of-self
 invariant_of-self c =
     let f = c.args.self.now in
     let step = c.requires.step in
-    record {
-      clocked = c.requires.end;
-      begun = f.begun;
-      ended = f.ended;
-      rest = subst (λ (rs : List Row). AtRest (f.clock + c.args.ms) f.next rs) (sym c.advance.ensures.rests) (advance_rests f.clock (f.clock + c.args.ms) f.next (rows f.book) f.rest f.book.resting.sound f.begun (omega arith) (omega arith));
-      listed = subst (λ (rs : List Row). every in_series rs ≡ true) (sym c.advance.ensures.rests) (advance_placed (f.clock + c.args.ms) (rows f.book) f.listed);
-    }
+    let kept = advance_keeps f (f.clock + c.args.ms) (omega arith) (omega arith) c.advance.ensures.did.rests in
+    record { clocked = c.requires.end; begun = f.begun; ended = f.ended; rest = kept.0; listed = kept.1 }

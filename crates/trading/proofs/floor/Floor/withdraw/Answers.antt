@@ -1,24 +1,12 @@
-use Rattle.std.proofs.Common.{◌≡◌, true, List, sym, subst, arith}
-use Rattle.book.specs.declared.row.Row.{Row}
-use Rattle.book.specs.Lists.{every}
-use Rattle.book.specs.Books.{rows}
-use Rattle.trading.specs.Rests.{AtRest, in_series}
-use Rattle.trading.proofs.Keeping.{pull_rests, rest_highest}
-use Rattle.trading.proofs.Placing.{pull_placed}
+use Rattle.std.proofs.Common.{arith}
+use Rattle.trading.proofs.Keeping.{floor_numbers, withdraw_keeps}
 use Rattle.trading.proofs.floor.Floor.withdraw.Goals as goal
 
-pub withdraw_all-requires : goal.withdraw_all-requires
-withdraw_all-requires g c =
-    let f = c.args.self.now in
-    record { room = c.requires; numbers = omega (arith, rest_highest f.clock f.next (rows f.book) f.rest f.book.resting.sound f.begun, f.ended) }
+pub withdraw_all-requires-clause-numbers : goal.withdraw_all-requires-clause-numbers
+withdraw_all-requires-clause-numbers g c = let f = c.args.self.now in omega (arith, floor_numbers f, f.ended)
 
 pub invariant_of-self : goal.invariant_of-self
 invariant_of-self g c =
     let f = c.args.self.now in
-    record {
-      clocked = f.clocked;
-      begun = f.begun;
-      ended = f.ended;
-      rest = subst (λ (rs : List Row). AtRest f.clock f.next rs) (sym c.withdraw_all.ensures.rests) (pull_rests f.clock f.next (rows f.book) (g.W.Wanted.wants c.args.wanted.now) f.rest f.book.resting.sound f.begun);
-      listed = subst (λ (rs : List Row). every in_series rs ≡ true) (sym c.withdraw_all.ensures.rests) (pull_placed (g.W.Wanted.wants c.args.wanted.now) (rows f.book) f.listed);
-    }
+    let kept = withdraw_keeps f (g.W.Wanted.wants c.args.wanted.now) c.withdraw_all.ensures.rests in
+    record { clocked = f.clocked; begun = f.begun; ended = f.ended; rest = kept.0; listed = kept.1 }
