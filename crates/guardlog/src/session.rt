@@ -1,130 +1,87 @@
-// A session: the listing while series are listed, then the market.
-use book::row::{Trade, Withdrawal};
+// A session: series are listed, then the market is open.
+ghost use Rattle.std.specs.Prelude.{◌≡◌};
+ghost use Rattle.std.specs.Option.{option_copied};
+ghost use Rattle.values.specs.declared.refusal.Refusal.TheVariants.{Shape};
+ghost use Rattle.guardlog.specs.Printing.{IsBroken};
+ghost use Rattle.guardlog.specs.Sessions.{NothingListed};
+
 use laws::opening::open_market;
-use market::call::Call;
 use market::listing::Listing;
 use market::market::Market;
+use market::number::Class;
 use market::tests::bad_price;
-use rolls::roll::Roll;
 use screens::rules::{ORDER_RULES, OrderRules, QUOTE_RULES, QuoteRules};
 use sources::tape::Tape;
 use std::mem;
-use values::order::Kind;
+use trading::blotter::Blotter;
+use values::call::{Call, Terms};
 use values::refusal::Refusal;
-use values::side::Price;
 use wire_format::line::Line;
+use wire_read::read::read_line;
 
 // The market of the rules: the tape and the rules' own screens.
 type RulesMarket = Market<OrderRules, QuoteRules, Tape>;
 
-#[derive(Drop)]
-pub struct Session {
-    // The series listed so far; none once the market is made.
-    listing: Listing,
-    // The first line of another letter than S closes the listing and makes the market. Until then it has no series, and is asked
-    // nothing.
-    market: RulesMarket,
-    closed: bool,
-}
+// A taken line's number, if it was given one; or why it is refused.
+pub type Answer = Result<Option<u32>, Refusal>;
 
-fn make_market(listing: Listing) -> RulesMarket {
-    open_market(listing, ORDER_RULES, QUOTE_RULES, Tape::new())
+#[derive(Drop)]
+pub enum Session {
+    // The series listed so far. The first line of another letter than S closes the listing and makes the market.
+    Listing(Listing),
+    Open(RulesMarket),
 }
 
 // S once the listing is closed: lists nothing.
-fn late(class: u32, strike: Price) -> Refusal {
-    if class > 15 {
-        return Refusal::Name;
+fn late(terms: Terms) -> Answer {
+    Class::try_from(terms.class)?;
+    if bad_price(terms.strike) {
+        return Err(Refusal::Price);
     }
-    if bad_price(strike) {
-        return Refusal::Price;
-    }
-    Refusal::Late
+    Err(Refusal::Late)
 }
 
 impl Session {
-    // Nothing is listed yet.
-    pub fn new() -> Session {
-        Session {
-            listing: Listing::new(),
-            market: make_market(Listing::new()),
-            closed: false,
+    pub fn new() -> Session
+        ensures { NothingListed result }
+    {
+        Session::Listing(Listing::new())
+    }
+
+    // Answers a line, by its bytes with their newline; one that is broken whatever its bytes has none.
+    pub fn answer_bytes(&mut self, line: Option<&[u8]>, blotter: &mut Blotter) -> Answer
+        ensures { IsBroken (option_copied line.entry) → (result ≡ Err Shape) × (blotter.new ≡ blotter.old) }
+    {
+        let line = read_line(line.ok_or(Refusal::Shape)?)?;
+        self.answer_line(line, blotter)
+    }
+
+    fn answer_line(&mut self, line: Line, blotter: &mut Blotter) -> Answer {
+        match line {
+            Line::Series(terms) => self.list(terms),
+            Line::Call(call) => self.call(call, blotter),
         }
     }
 
-    // Closes the listing, if it is open still.
-    fn close_listing(&mut self) {
-        if !self.closed {
-            self.market = make_market(mem::replace(&mut self.listing, Listing::new()));
-            self.closed = true;
+    // S: lists a series.
+    fn list(&mut self, terms: Terms) -> Answer {
+        match self {
+            Session::Listing(listing) => listing.add(terms).map(|()| None),
+            Session::Open(_) => late(terms),
         }
     }
 
-    // Answers a line.
-    pub fn answer(
-        &mut self,
-        line: Line,
-        trades: &mut Roll<Trade>,
-        withdrawals: &mut Roll<Withdrawal>,
-    ) -> Result<u32, Refusal> {
-        let call = match line {
-            Line::Series {
-                class,
-                kind,
-                strike,
-            } => return self.list(class, kind, strike),
-            Line::Nbbo { series, bid, offer } => Call::Nbbo { series, bid, offer },
-            Line::Event { class, event } => Call::Event { class, event },
-            Line::Order {
-                series,
-                side,
-                price,
-                size,
-                condition,
-            } => Call::Order {
-                series,
-                side,
-                price,
-                size,
-                condition,
-            },
-            Line::Quote {
-                maker,
-                series,
-                side,
-                price,
-                size,
-            } => Call::Quote {
-                maker,
-                series,
-                side,
-                price,
-                size,
-            },
-            Line::Enable { maker, class } => Call::Enable { maker, class },
-            Line::Withdraw { number } => Call::Withdraw { number },
-            Line::Clock { ms } => Call::Clock { ms },
-            Line::Width {
-                series,
-                width,
-                first,
-                second,
-            } => Call::Width {
-                series,
-                width,
-                first,
-                second,
-            },
-        };
-        self.close_listing();
-        self.market.call(call, trades, withdrawals)
-    }
-
-    // S: lists a series; late once the listing is closed.
-    fn list(&mut self, class: u32, kind: Kind, strike: Price) -> Result<u32, Refusal> {
-        if self.closed {
-            return Err(late(class, strike));
+    // Another letter: calls the market, which is made now if series were listed until now.
+    fn call(&mut self, call: Call, blotter: &mut Blotter) -> Answer {
+        match self {
+            Session::Listing(listing) => {
+                let listing = mem::replace(listing, Listing::new());
+                let mut market = open_market(listing, ORDER_RULES, QUOTE_RULES, Tape::new());
+                let answer = market.call(call, blotter);
+                *self = Session::Open(market);
+                answer
+            }
+            Session::Open(market) => market.call(call, blotter),
         }
-        self.listing.add(class, kind, strike)
     }
 }

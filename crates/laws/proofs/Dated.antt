@@ -22,6 +22,7 @@ use Rattle.trading.proofs.Resting.{Sane, Rested, serve_row_sane, moved_rows, onw
 use Rattle.trading.proofs.Timings.{row_of_of}
 use Rattle.laws.specs.Displays.{is_party}
 use Rattle.laws.specs.Moments.{due_in}
+use Rattle.laws.proofs.Enters.{balanced}
 use Rattle.laws.proofs.Keeping.{serve_keeps, pull_keeps}
 use Rattle.laws.proofs.Words.{or_else_true, or_else_false}
 use Rattle.laws.proofs.Sizes.{amount_le}
@@ -305,9 +306,9 @@ module _ (k : ℕ) (was : ℕ → Option ℕ) where
         (λ e. subst (DatedAs y.standing) (sym (last_at t p s traded y.number (λ z. other (face y) (take_in due (taker t (reach_of p)) d.rows t.size [] (face y) (has_in y fill.rows e)) z))) (filled_dated y e))
         (has_insert x fill.rows y i)
 
-    pub enter_dated : {more : ℕ} → Sane more (rest due t p fill fill.left traded).rows → Dated (enter due t p d).journal (enter due t p d).rows
+    pub enter_dated : {more : ℕ} → Sane more (balanced due t p d).rows → Dated (enter due t p d).journal (enter due t p d).rows
     unfolding enter
-    enter_dated sane = serve_dated t.series (rest due t p fill fill.left traded) sane (rest_dated fill.left)
+    enter_dated sane = serve_dated t.series (balanced due t p d) sane (rest_dated fill.left)
 
   lapse_at : (i n : ℕ) (j : List Event) (x : ℕ) → at x (lapse i n j) ≡ at x j
   unfolding due_in

@@ -28,6 +28,10 @@ use Rattle.laws.proofs.Words.{or_else_true, or_else_false, shown_self, shown_oth
 use Rattle.laws.proofs.Sizes.{size_in, size_lacks, cond_zero, insert_size, take_sizes}
 use Rattle.laws.proofs.Ledgers.{onward_near, size_of, Ledger, AllFair, Facts, known, whole, Told, Sound, Settled, take_fair, serve_sound, placed_told}
 
+-- an order or quote has traded and its balance rests, before its series is served
+abbrev pub balanced : ℕ → Ticket → Pricing → Desk → Desk
+balanced due t p d = let f = take due (taker t (reach_of p)) t.size d.rows [] in rest due t p f f.left (noting f.trades (show_first t p d.journal))
+
 -- the pricing and the collar of an order agree: its reach is a collar onward, and its display price stands within its reach
 abbrev pub PricedAs : Pricing → Side → ℕ → Option Collar → Type 0
 PricedAs (AtLimit l) s limit o = (o ≡ None) × (l ≡ limit)
@@ -359,8 +363,7 @@ module _ (L : Ledger) where
           insert_others x filled.rows (λ f g i l. ok.0.1 f g (old_in f i) (old_in g l)),
         )
 
-    -- the rows as the balance comes to rest, before the series is served
-    pub rested_sane : Sane t.number (rest due t p (take due (taker t (reach_of p)) t.size d.rows []) (take due (taker t (reach_of p)) t.size d.rows []).left (noting (take due (taker t (reach_of p)) t.size d.rows []).trades (show_first t p d.journal))).rows
+    pub rested_sane : Sane t.number (balanced due t p d).rows
     unfolding filled
     rested_sane = (rest_sound filled.left refl).0.0
 
@@ -368,8 +371,7 @@ module _ (L : Ledger) where
     unfolding enter filled
     enter_settled =
         let h = rest_sound filled.left refl in
-        let at = rest due t p filled filled.left traded in
-        (serve_rested at due t.series h.0.0 h.1, (serve_sound L due t.series at h.0).1)
+        (serve_rested (balanced due t p d) due t.series h.0.0 h.1, (serve_sound L due t.series (balanced due t p d) h.0).1)
 
     -- an immediate order's balance lapses
     lapse_told : (n : ℕ) → filled.left ≡ n → Told L t.number (record { rows = filled.rows; journal = lapse t.number n traded })

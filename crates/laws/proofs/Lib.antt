@@ -4,6 +4,7 @@ pub mod Sizes
 pub mod Ledgers
 pub mod Enters
 pub mod Prices
+pub mod Outcomes
 pub mod Pulls
 pub mod Remaps
 pub mod Steps

@@ -1,17 +1,10 @@
 -- The moments at which a held order falls due lie a second apart.
-use Rattle.std.proofs.Common.{◌≡◌, ℕ, ◌+◌, ◌-◌, ◌*◌, ◌/◌, ◌<◌, ◌≤◌, Bool, true, false, cond, eqb, ltb, ◌⊎◌, List, [], ◌∷◌, ◌++◌, length, Some, None, Option, sym, refl, ap, ◌∙◌, subst, inl, inr, ⊎_elim, arith}
+use Rattle.std.proofs.Common.{◌≡◌, ℕ, ◌+◌, ◌-◌, ◌*◌, ◌/◌, ◌<◌, ◌≤◌, Bool, true, false, cond, eqb, ◌⊎◌, List, [], ◌∷◌, ◌++◌, length, Some, None, Option, sym, refl, ap, ◌∙◌, subst, inl, inr, ⊎_elim, arith}
 use Rattle.std.specs.List.{AllByRecursion}
-use Rattle.std.proofs.lemmas.Bool.{ltb-false, eqb-true, or_parts, cond_both}
-use Rattle.values.specs.declared.order.OrderPrice.{OrderPrice}
-use Rattle.values.specs.declared.order.Condition.{Condition}
+use Rattle.std.proofs.lemmas.Bool.{eqb-true, cond_both}
+use Rattle.values.specs.declared.call.Call.{Call}
+use Rattle.values.specs.declared.call.Call.TheVariants as call
 use Rattle.values.specs.declared.reference.Reference.{Reference}
-use Rattle.values.specs.declared.refusal.Cause.{Cause}
-use Rattle.values.specs.declared.refusal.Refusal.{Refusal}
-use Rattle.values.specs.declared.side.Side.{Side}
-use Rattle.screens.specs.declared.view.Verdict.{Verdict}
-use Rattle.screens.specs.declared.view.Verdict.TheVariants.{Pass, Refused}
-use Rattle.screens.specs.declared.view.Extent.{Extent}
-use Rattle.screens.specs.declared.view.Extent.TheVariants.{OneSide, WholeClass}
 use Rattle.screens.specs.Screens.{Lawful}
 use Rattle.book.specs.declared.row.Row.{Row}
 use Rattle.book.specs.declared.row.Standing.{Standing}
@@ -23,11 +16,8 @@ use Rattle.trading.proofs.Faces.{Role, plain, held, quote, role_of, Face, In}
 use Rattle.book.specs.Taking.{Has}
 use Rattle.trading.proofs.Timings.{DueIn, has_timed}
 use Rattle.trading.proofs.Each.{in_has}
-use Rattle.market.specs.declared.call.Call.{Call}
-use Rattle.market.specs.declared.call.Call.TheVariants as call
-use Rattle.market.specs.States.{Making, State, Room, Outcome, view_in}
-use Rattle.market.specs.Tests.{first, tests_nbbo, tests_event, tests_order, tests_quote, tests_enable, tests_withdraw, tests_clock, tests_width}
-use Rattle.market.specs.Calls.{unless, taken_nbbo, taken_event, taken_enable, taken_withdraw, taken_clock, taken_width, screening, order_by, refused_quote, quote_by, step}
+use Rattle.market.specs.States.{Making, State, Room, Outcome}
+use Rattle.market.specs.Calls.{step}
 use Rattle.laws.specs.Histories.{Entry, History, journal_of}
 use Rattle.laws.specs.Runs.{Asked, entry_of, run}
 use Rattle.laws.specs.Admissions.{Party, brought_by, Admission, admission, party_in}
@@ -35,7 +25,7 @@ use Rattle.laws.specs.Views.{clock_of}
 use Rattle.laws.specs.Displays.{display_of, is_party, Rests}
 use Rattle.laws.specs.Collars.{Collar, collar_at, collar_in, collar_of}
 use Rattle.laws.specs.Moments.{second_later, due_in, due_of, times_moved, note_moment, moments_in, moments_of, SecondsApart, EveryRunTakesItsTime}
-use Rattle.laws.proofs.Prices.{none_met}
+use Rattle.laws.proofs.Outcomes.{Came, clock_moved, came, within_second}
 use Rattle.laws.proofs.Steps.{Kept, step_kept}
 use Rattle.laws.proofs.Runs.{run_kept, stands}
 use Rattle.laws.proofs.Ledgers.{maker_of, Collared}
@@ -230,31 +220,9 @@ module _ (m : Making) (st : State) where
   abbrev On : Outcome → Type 0
   On o = (st.clock ≤ o.next.clock) × (o.next.clock ≤ st.clock + 1000)
 
-  unless_on : (q : Option Refusal) (o : Outcome) → (q ≡ None → On o) → On (unless q st o)
-  unless_on None o go = go refl
-  unless_on (Some r) o go = (omega arith, omega arith)
-
-  order_on : (s : ℕ) (side : Side) (price : OrderPrice) (size : ℕ) (condition : Condition) (v : Verdict) → On (order_by m st v s side price size condition)
-  order_on s side price size condition Pass = (omega arith, omega arith)
-  order_on s side price size condition (Refused why) = (omega arith, omega arith)
-
-  refused_on : (x : Extent) (k s : ℕ) (side : Side) (why : Cause) → On (refused_quote m st x why k s side)
-  refused_on OneSide k s side why = (omega arith, omega arith)
-  refused_on WholeClass k s side why = (omega arith, omega arith)
-
-  quote_on : (k s : ℕ) (side : Side) (price size : ℕ) (v : Verdict) → On (quote_by m st v k s side price size)
-  quote_on k s side price size Pass = (omega arith, omega arith)
-  quote_on k s side price size (Refused why) = refused_on (m.extent (view_in m st s) side price) k s side why
-
-  step_on : (room : Room) (c : Call) → On (step m st room c)
-  step_on room (call.Nbbo s b o) = unless_on (first (tests_nbbo m st s b o)) (taken_nbbo m st s b o) (λ z. (omega arith, omega arith))
-  step_on room (call.Event c e) = unless_on (first (tests_event m st c e)) (taken_event m st c e) (λ z. (omega arith, omega arith))
-  step_on room (call.Order s side price size condition) = unless_on (first (tests_order m st room s price size condition)) (order_by m st (screening m st s side price) s side price size condition) (λ z. order_on s side price size condition (screening m st s side price))
-  step_on room (call.Quote k s side price size) = unless_on (first (tests_quote m st room k s side price size)) (quote_by m st (m.quotes (view_in m st s) side price) k s side price size) (λ z. quote_on k s side price size (m.quotes (view_in m st s) side price))
-  step_on room (call.Enable k c) = unless_on (first (tests_enable m st k c)) (taken_enable m st k c) (λ z. (omega arith, omega arith))
-  step_on room (call.Withdraw n) = unless_on (first (tests_withdraw m st room n)) (taken_withdraw m st n) (λ z. (omega arith, omega arith))
-  step_on room (call.Clock ms) = unless_on (first (tests_clock m st room ms)) (taken_clock m st ms) (λ z. let l = ltb-false 1000 ms (or_parts (ltb 1000 ms) _ (none_met (tests_clock m st room ms) z).1.0).0 in (omega arith, omega arith))
-  step_on room (call.Width s w i j) = unless_on (first (tests_width m st s w i j)) (taken_width m st s w) (λ z. (omega arith, omega arith))
+  came_on : {room : Room} {c : Call} {o : Outcome} → Came m st room c o → On o
+  came_on {room} (clock_moved ms met) = let l = within_second m st room ms met in (omega arith, omega arith)
+  came_on other = (omega arith, omega arith)
 
 module _ (m : Making) (refs : ℕ → Reference) (lo : Lawful m.orders) (lq : Lawful m.quotes) where
   pub run_punctual : (asked : List Asked) → Punctual (run m refs asked).state (run m refs asked).history
@@ -268,7 +236,7 @@ module _ (m : Making) (refs : ℕ → Reference) (lo : Lawful m.orders) (lq : La
   tick : {st : State} {h : History} (a : Asked) → Kept m refs st h → Punctual st h → Kept m refs (step m st a.0 a.1).next (entry_of a (step m st a.0 a.1) ∷ h) → Tick (entry_of a (step m st a.0 a.1)) h
   tick {st} {h} a ok on next =
       let o = step m st a.0 a.1 in
-      let t = step_on m st a.0 a.1 in
+      let t = came_on m st (came m st a.0 a.1) in
       let x = ok.clock in
       let y = next.clock in
       record {
@@ -300,14 +268,8 @@ uncollared None c x k e p q = let z : ◌≡◌ {A = ℕ} 0 1 = cc in omega arit
 uncollared (Some a) c x k e p q = by a.call e p
   where
     by : (w : Call) → collar_at w a.before ≡ Some c → brought_by w ≡ Some x → ⊥
-    by (call.Nbbo s bid offer) e p = let z : ◌≡◌ {A = ℕ} 0 1 = cc in omega arith
-    by (call.Event i w) e p = let z : ◌≡◌ {A = ℕ} 0 1 = cc in omega arith
-    by (call.Order s side price size condition) e p = let none : None ≡ x.maker = ap (λ (o : Option Party). maker_in o) p in let z : ◌≡◌ {A = ℕ} 0 1 = cc in omega arith
-    by (call.Quote i s side price size) e p = let z : ◌≡◌ {A = ℕ} 0 1 = cc in omega arith
-    by (call.Enable i d) e p = let z : ◌≡◌ {A = ℕ} 0 1 = cc in omega arith
-    by (call.Withdraw i) e p = let z : ◌≡◌ {A = ℕ} 0 1 = cc in omega arith
-    by (call.Clock ms) e p = let z : ◌≡◌ {A = ℕ} 0 1 = cc in omega arith
-    by (call.Width s w i j) e p = let z : ◌≡◌ {A = ℕ} 0 1 = cc in omega arith
+    by (call.Order o) e p = let none : None ≡ x.maker = ap (λ (y : Option Party). maker_in y) p in let z : ◌≡◌ {A = ℕ} 0 1 = cc in omega arith
+    by other e p = let z : ◌≡◌ {A = ℕ} 0 1 = cc in omega arith
 
 abbrev Waiting : Collar → ℕ → ℕ → History → Type 0
 Waiting c n p h = (p ≡ c.limit) ⊎ ((d : ℕ) × (due_of n h ≡ Some d) × (clock_of h < d) × (d ≤ clock_of h + 1000))

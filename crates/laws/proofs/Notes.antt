@@ -1,19 +1,13 @@
 -- Which calls bring which events.
-use Rattle.std.proofs.Common.{◌≡◌, ℕ, zero, suc, ◌+◌, Bool, true, List, [], ◌∷◌, Some, None, Ok, Err, Option, refl}
+use Rattle.std.proofs.Common.{◌≡◌, ℕ, zero, suc, ◌+◌, Bool, true, List, [], ◌∷◌, Some, None, Ok, Err, refl}
 use Rattle.std.specs.List.{AllByRecursion}
 use Rattle.std.proofs.lemmas.Bool.{eq-eqb}
+use Rattle.values.specs.declared.call.Call.{Call}
+use Rattle.values.specs.declared.call.Call.TheVariants as call
+use Rattle.values.specs.declared.call.Quote.{Quote}
 use Rattle.values.specs.declared.order.Condition.{Condition}
 use Rattle.values.specs.declared.order.Condition.TheVariants.{Day, Immediate}
-use Rattle.values.specs.declared.order.OrderPrice.{OrderPrice}
-use Rattle.values.specs.declared.refusal.Cause.{Cause}
-use Rattle.values.specs.declared.refusal.Refusal.{Refusal}
 use Rattle.values.specs.declared.refusal.Refusal.TheVariants.{Screen}
-use Rattle.values.specs.declared.side.Side.{Side}
-use Rattle.values.specs.Orders.{limit_of}
-use Rattle.screens.specs.declared.view.Verdict.{Verdict}
-use Rattle.screens.specs.declared.view.Verdict.TheVariants.{Pass, Refused}
-use Rattle.screens.specs.declared.view.Extent.{Extent}
-use Rattle.screens.specs.declared.view.Extent.TheVariants.{OneSide, WholeClass}
 use Rattle.collars.specs.declared.pricing.Pricing.{Pricing}
 use Rattle.collars.specs.declared.pricing.Pricing.TheVariants.{AtLimit, Wide, Narrow}
 use Rattle.book.specs.declared.row.Row.{Row}
@@ -26,14 +20,13 @@ use Rattle.trading.specs.Journals.{Event, Shown, Moved, Traded, Withdrawn, notin
 use Rattle.trading.specs.Desks.{Desk, serve_row, serve, pull, second_after, move_on, advance, taker, show_first, show_last, rest, enter, lapse, enter_now}
 use Rattle.trading.specs.Doing.{desk}
 use Rattle.trading.proofs.Resting.{Rested, serve_rested, move_on_sane, move_on_others}
-use Rattle.market.specs.declared.call.Call.{Call}
-use Rattle.market.specs.declared.call.Call.TheVariants as call
-use Rattle.market.specs.States.{Making, State, Room, Answer, Outcome, class_of, view_in}
-use Rattle.market.specs.Tests.{first, on_side, in_class, tests_nbbo, tests_event, tests_order, tests_quote, tests_enable, tests_withdraw, tests_clock, tests_width}
-use Rattle.market.specs.Calls.{unless, ticket_for, priced, enter_by, taken_nbbo, taken_event, taken_enable, taken_withdraw, taken_clock, taken_width, screening, order_by, refused_quote, quote_by, step}
+use Rattle.market.specs.States.{Making, State, Room, Answer, Outcome, class_of}
+use Rattle.market.specs.Tests.{on_side, in_class}
+use Rattle.market.specs.Calls.{enter_by, step}
 use Rattle.laws.specs.Admissions.{admits}
 use Rattle.laws.specs.Moves.{is_clock}
 use Rattle.laws.specs.Refusals.{Withdrawals}
+use Rattle.laws.proofs.Outcomes.{order_ticket, day_pricing, quote_ticket, side_cleared, Came, row_withdrawn, clock_moved, order_taken, quote_taken, side_pulled, class_pulled, came}
 use Rattle.laws.proofs.Keeping.{serve_keeps, pull_keeps, advance_keeps}
 
 -- what a call with an answer may note
@@ -102,34 +95,23 @@ abbrev Noted : Call → Outcome → Type 0
 Noted c o = AllByRecursion (Proper c o.answer) o.journal
 
 module _ (m : Making) (st : State) {top : ℕ} (ok : Rested top st.rows) where
-  unless_noted : (c : Call) (q : Option Refusal) (o : Outcome) → Noted c o → Noted c (unless q st o)
-  unless_noted c None o h = h
-  unless_noted c (Some r) o h = tt
+  quote_pulled : (q : Quote) (a : Answer) (p : Row → Bool) → AllByRecursion (Proper (call.Quote q) a) (pull p (desk st.rows)).journal
+  quote_pulled q a p = pulled (Proper (call.Quote q) a) (λ t. tt) (λ w. tt) p (desk st.rows) tt
 
-  order_noted : (s : ℕ) (side : Side) (price : OrderPrice) (size : ℕ) (condition : Condition) (v : Verdict) → Noted (call.Order s side price size condition) (order_by m st v s side price size condition)
-  order_noted s side price size condition (Refused why) = tt
-  order_noted s side price size condition Pass =
-      entered_by (Proper (call.Order s side price size condition) (Ok st.next)) (λ t. tt) (λ w. tt) (ticket_for st s side (limit_of side price) size None) (λ p. eq-eqb st.next st.next refl) condition (second_after st.clock) (priced (st.width s) side (limit_of side price) (st.nbbo s)) (desk st.rows) tt
-
-  refused_noted : (k s : ℕ) (side : Side) (price size : ℕ) (x : Extent) (why : Cause) → Noted (call.Quote k s side price size) (refused_quote m st x why k s side)
-  refused_noted k s side price size OneSide why = pulled (Proper (call.Quote k s side price size) (Err (Screen why))) (λ t. tt) (λ w. tt) (on_side k s side) (desk st.rows) tt
-  refused_noted k s side price size WholeClass why = pulled (Proper (call.Quote k s side price size) (Err (Screen why))) (λ t. tt) (λ w. tt) (in_class m k (class_of m s)) (desk st.rows) tt
-
-  quote_noted : (k s : ℕ) (side : Side) (price size : ℕ) (v : Verdict) → Noted (call.Quote k s side price size) (quote_by m st v k s side price size)
-  quote_noted k s side price size (Refused why) = refused_noted k s side price size (m.extent (view_in m st s) side price) why
-  quote_noted k s side price size Pass =
-      entered (Proper (call.Quote k s side price size) (Ok st.next)) (λ t. tt) (λ w. tt) (ticket_for st s side price size (Some k)) (λ p. eq-eqb st.next st.next refl) (second_after st.clock) (AtLimit price) (pull (on_side k s side) (desk st.rows))
-      (pulled (Proper (call.Quote k s side price size) (Ok st.next)) (λ t. tt) (λ w. tt) (on_side k s side) (desk st.rows) tt)
+  pub came_noted : {room : Room} {c : Call} {o : Outcome} → Came m st room c o → Noted c o
+  came_noted (order_taken o met pass) =
+      entered_by (Proper (call.Order o) (Ok (Some st.next))) (λ t. tt) (λ w. tt) (order_ticket st o) (λ p. eq-eqb st.next st.next refl) o.condition (second_after st.clock) (day_pricing st o) (desk st.rows) tt
+  came_noted (quote_taken q met pass) =
+      entered (Proper (call.Quote q) (Ok (Some st.next))) (λ t. tt) (λ w. tt) (quote_ticket st q) (λ p. eq-eqb st.next st.next refl) (second_after st.clock) (AtLimit q.price) (side_cleared st q)
+      (quote_pulled q (Ok (Some st.next)) (on_side q.maker q.series q.side))
+  came_noted (side_pulled q why extent) = quote_pulled q (Err (Screen why)) (on_side q.maker q.series q.side)
+  came_noted (class_pulled q why extent) = quote_pulled q (Err (Screen why)) (in_class m q.maker (class_of m q.series))
+  came_noted (row_withdrawn n) = pulled (Proper (call.Withdraw n) (Ok None)) (λ t. tt) (λ w. tt) (numbered n) (desk st.rows) tt
+  came_noted (clock_moved ms met) = advanced (Proper (call.Clock ms) (Ok None)) (λ t. tt) (λ w. tt) (λ n p. refl) (st.clock + ms) (desk st.rows) ok tt
+  came_noted other = tt
 
   pub step_noted : (room : Room) (c : Call) → Noted c (step m st room c)
-  step_noted room (call.Nbbo s b o) = unless_noted (call.Nbbo s b o) (first (tests_nbbo m st s b o)) (taken_nbbo m st s b o) tt
-  step_noted room (call.Event c e) = unless_noted (call.Event c e) (first (tests_event m st c e)) (taken_event m st c e) tt
-  step_noted room (call.Order s side price size condition) = unless_noted (call.Order s side price size condition) (first (tests_order m st room s price size condition)) (order_by m st (screening m st s side price) s side price size condition) (order_noted s side price size condition (screening m st s side price))
-  step_noted room (call.Quote k s side price size) = unless_noted (call.Quote k s side price size) (first (tests_quote m st room k s side price size)) (quote_by m st (m.quotes (view_in m st s) side price) k s side price size) (quote_noted k s side price size (m.quotes (view_in m st s) side price))
-  step_noted room (call.Enable k c) = unless_noted (call.Enable k c) (first (tests_enable m st k c)) (taken_enable m st k c) tt
-  step_noted room (call.Withdraw n) = unless_noted (call.Withdraw n) (first (tests_withdraw m st room n)) (taken_withdraw m st n) (pulled (Proper (call.Withdraw n) (Ok 0)) (λ t. tt) (λ w. tt) (numbered n) (desk st.rows) tt)
-  step_noted room (call.Clock ms) = unless_noted (call.Clock ms) (first (tests_clock m st room ms)) (taken_clock m st ms) (advanced (Proper (call.Clock ms) (Ok 0)) (λ t. tt) (λ w. tt) (λ n p. refl) (st.clock + ms) (desk st.rows) ok tt)
-  step_noted room (call.Width s w i j) = unless_noted (call.Width s w i j) (first (tests_width m st s w i j)) (taken_width m st s w) tt
+  step_noted room c = came_noted (came m st room c)
 
 -- what is withdrawn from a desk where nothing was noted is all that is noted
 pub pulled_alone : (q : Row → Bool) (d : Desk) → Withdrawals d.journal → Withdrawals (pull q d).journal

@@ -1,23 +1,20 @@
 -- How an order is priced agrees with its collar, and what a lawful screen passes.
-use Rattle.std.proofs.Common.{◌≡◌, ℕ, ◌<◌, ◌≤◌, Bool, true, false, cond, ltb, List, [], ◌∷◌, Some, None, Option, sym, refl, ap, ◌∙◌, subst, arith}
+use Rattle.std.proofs.Common.{◌≡◌, ℕ, ◌<◌, ◌≤◌, Bool, true, false, cond, ltb, Some, None, Ok, Err, Option, sym, refl, ap, ◌∙◌, arith}
 use Rattle.std.proofs.lemmas.Bool.{ltb-true, ltb-false, le-leb, or_parts}
 use Rattle.values.specs.declared.nbbo.Nbbo.{Nbbo}
 use Rattle.values.specs.declared.order.OrderPrice.{OrderPrice}
 use Rattle.values.specs.declared.order.OrderPrice.TheVariants.{Market, Limit}
-use Rattle.values.specs.declared.refusal.Refusal.{Refusal}
 use Rattle.values.specs.declared.side.Side.{Side}
 use Rattle.values.specs.declared.side.Side.TheVariants.{Buy, Sell}
 use Rattle.values.specs.Orders.{limit_of}
 use Rattle.values.specs.Sides.{NoMoreAggressive, ahead, onward}
 use Rattle.screens.specs.declared.view.View.{View}
-use Rattle.screens.specs.declared.view.Verdict.{Verdict}
-use Rattle.screens.specs.declared.view.Verdict.TheVariants.{Pass, Refused}
 use Rattle.screens.specs.Screens.{Meaning, Lawful}
-use Rattle.screens.specs.Views.{refuses}
+use Rattle.screens.specs.Views.{Verdict, passes, refuses}
 use Rattle.collars.specs.declared.pricing.Pricing.TheVariants.{AtLimit, Wide, Narrow}
 use Rattle.collars.specs.Collars.{width_by}
 use Rattle.collars.specs.Pricings.{marketable, spread, collared}
-use Rattle.market.specs.Tests.{first, bad_price, bad_side, crossed}
+use Rattle.market.specs.Tests.{bad_price, bad_side, crossed}
 use Rattle.market.specs.Calls.{priced_at, priced}
 use Rattle.trading.proofs.Sides.{clash, no_more_true, onward_on}
 use Rattle.laws.specs.Collars.{is_marketable, collar_by}
@@ -25,12 +22,12 @@ use Rattle.laws.specs.Moves.{gap}
 use Rattle.laws.proofs.Enters.{PricedAs}
 
 -- a price within a passed one passes
-pub passes_less : (f : Meaning) → Lawful f → (v : View) (s : Side) (p q : ℕ) → NoMoreAggressive s p q → f v s q ≡ Pass → f v s p ≡ Pass
+pub passes_less : (f : Meaning) → Lawful f → (v : View) (s : Side) (p q : ℕ) → NoMoreAggressive s p q → f v s q ≡ passes → f v s p ≡ passes
 passes_less f law v s p q n h = by (f v s p) refl
   where
-    by : (x : Verdict) → f v s p ≡ x → x ≡ Pass
-    by Pass e = refl
-    by (Refused c) e = absurd (clash (refuses (f v s q)) (law v s p q n (ap refuses e)) (ap refuses h))
+    by : (x : Verdict) → f v s p ≡ x → x ≡ passes
+    by (Ok pass) e = refl
+    by (Err c) e = absurd (clash (refuses (f v s q)) (law v s p q n (ap refuses e)) (ap refuses h))
 
 -- an NBBO as N sets it
 pub record Orderly (b : Nbbo) : Type 0 where
@@ -85,31 +82,3 @@ pricing_as w s price b ok = by s b.bid b.offer ok.bid ok.offer ok.order
     by Sell (Some x) None g h o = (refl, refl)
     by Buy (Some x) (Some y) g h o = both_sides Buy (limit_of Buy price) x y (width_by w x) (is_marketable Buy price y) (marketable_same Buy price y h) (ltb-false y x o)
     by Sell (Some x) (Some y) g h o = both_sides Sell (limit_of Sell price) y x (width_by w x) (is_marketable Sell price x) (marketable_same Sell price x g) (ltb-false y x o)
-
--- ---- tables of tests
-
--- a call that passes the table met none of its tests
-abbrev pub NoneMet : List (Bool × Refusal) → Type 0
-NoneMet [] = Unit {0}
-NoneMet (t ∷ ts) = (t.0 ≡ false) × NoneMet ts
-
-pub none_met : (ts : List (Bool × Refusal)) → first ts ≡ None → NoneMet ts
-none_met [] e = tt
-none_met (t ∷ ts) e = by t.0 refl e (none_met ts)
-  where
-    by : (b : Bool) → t.0 ≡ b → cond b (Some t.1) (first ts) ≡ None → (first ts ≡ None → NoneMet ts) → NoneMet (t ∷ ts)
-    by true z e more = absurd (let y : ◌≡◌ {A = ℕ} 0 1 = cc in omega arith)
-    by false z e more = (z, more e)
-
--- a refusal by a table is that of a test that was met
-abbrev pub EachTest : (Bool → Refusal → Type 0) → List (Bool × Refusal) → Type 0
-EachTest P [] = Unit {0}
-EachTest P (t ∷ ts) = P t.0 t.1 × EachTest P ts
-
-pub test_met : (P : Bool → Refusal → Type 0) (ts : List (Bool × Refusal)) (r : Refusal) → EachTest P ts → first ts ≡ Some r → P true r
-test_met P [] r h e = absurd (let y : ◌≡◌ {A = ℕ} 0 1 = cc in omega arith)
-test_met P (t ∷ ts) r h e = by t.0 refl e (test_met P ts r h.1)
-  where
-    by : (b : Bool) → t.0 ≡ b → cond b (Some t.1) (first ts) ≡ Some r → (first ts ≡ Some r → P true r) → P true r
-    by true z e more = let same : t.1 ≡ r = cc in subst (P true) same (subst (λ (y : Bool). P y t.1) z h.0)
-    by false z e more = more e

@@ -1,27 +1,19 @@
 -- Between calls, each held order is due after the clock and within a second of it, at the moment that the history gives it; and what
 -- moves has fallen due.
-use Rattle.std.proofs.Common.{◌≡◌, ℕ, zero, suc, ◌+◌, ◌<◌, ◌≤◌, Bool, true, false, eqb, ltb, List, [], ◌∷◌, ◌++◌, length, Some, None, Option, sym, refl, subst, arith}
+use Rattle.std.proofs.Common.{◌≡◌, ℕ, zero, suc, ◌+◌, ◌<◌, ◌≤◌, Bool, true, false, eqb, List, [], ◌∷◌, ◌++◌, length, Some, None, Option, sym, refl, subst, arith}
 use Rattle.std.specs.List.{AllByRecursion}
-use Rattle.std.proofs.lemmas.Bool.{ltb-false, or_parts, cond_both}
-use Rattle.values.specs.declared.order.OrderPrice.{OrderPrice}
-use Rattle.values.specs.declared.order.Condition.{Condition}
-use Rattle.values.specs.declared.order.Condition.TheVariants.{Day, Immediate}
+use Rattle.std.proofs.lemmas.Bool.{cond_both}
+use Rattle.values.specs.declared.call.Call.{Call}
+use Rattle.values.specs.declared.call.Order.{Order}
+use Rattle.values.specs.declared.call.Quote.{Quote}
 use Rattle.values.specs.declared.reference.Reference.{Reference}
-use Rattle.values.specs.declared.refusal.Cause.{Cause}
-use Rattle.values.specs.declared.refusal.Refusal.{Refusal}
-use Rattle.values.specs.declared.side.Side.{Side}
-use Rattle.values.specs.Orders.{limit_of}
-use Rattle.screens.specs.declared.view.Verdict.{Verdict}
-use Rattle.screens.specs.declared.view.Verdict.TheVariants.{Pass, Refused}
-use Rattle.screens.specs.declared.view.Extent.{Extent}
-use Rattle.screens.specs.declared.view.Extent.TheVariants.{OneSide, WholeClass}
 use Rattle.screens.specs.Screens.{Lawful}
 use Rattle.collars.specs.declared.pricing.Pricing.{Pricing}
 use Rattle.collars.specs.declared.pricing.Pricing.TheVariants.{AtLimit}
 use Rattle.collars.specs.Pricings.{reach_of, display_of as restsAt, collar_of}
 use Rattle.book.specs.declared.row.Row.{Row}
 use Rattle.book.specs.declared.row.Standing.{Standing}
-use Rattle.book.specs.declared.row.Standing.TheVariants.{Plain, Held, Quote}
+use Rattle.book.specs.declared.row.Standing.TheVariants.{Plain, Held}
 use Rattle.book.specs.declared.row.Trade.{Trade}
 use Rattle.book.specs.Rows.{numbered, without, row_of, once_moved, moved_to}
 use Rattle.book.specs.Taking.{Fill, take, Has}
@@ -33,21 +25,19 @@ use Rattle.trading.proofs.Sides.{clash}
 use Rattle.trading.proofs.Faces.{row_of_has, Lacks}
 use Rattle.trading.proofs.Resting.{Rested, serve_rested, onwards, moved_rows, move_on_sane, move_on_others}
 use Rattle.trading.proofs.Timings.{due_length, DueIn, Timed, has_timed, insert_timed, without_timed, take_timed, serve_timed, turns_clocked, none_due}
-use Rattle.market.specs.declared.call.Call.{Call}
-use Rattle.market.specs.declared.call.Call.TheVariants as call
-use Rattle.market.specs.States.{Making, State, Room, Answer, Outcome, class_of, view_in}
-use Rattle.market.specs.Tests.{first, on_side, in_class, tests_nbbo, tests_event, tests_order, tests_quote, tests_enable, tests_withdraw, tests_clock, tests_width}
-use Rattle.market.specs.Calls.{unless, priced, taken_nbbo, taken_event, taken_enable, taken_withdraw, taken_clock, taken_width, screening, taken_order, order_by, refused_quote, quote_by, step}
+use Rattle.market.specs.States.{Making, State, Room, Answer, Outcome, class_of}
+use Rattle.market.specs.Tests.{on_side, in_class}
+use Rattle.market.specs.Calls.{step}
 use Rattle.laws.specs.Histories.{History}
 use Rattle.laws.specs.Runs.{Asked, entry_of}
 use Rattle.laws.specs.Moves.{is_clock}
 use Rattle.laws.specs.Moments.{due_in, due_of}
-use Rattle.laws.proofs.Keeping.{serve_keeps, pull_keeps, advance_keeps}
-use Rattle.laws.proofs.Enters.{rested_sane}
-use Rattle.laws.proofs.Prices.{none_met}
+use Rattle.laws.proofs.Keeping.{serve_keeps, advance_keeps}
+use Rattle.laws.proofs.Outcomes.{order_ticket, day_pricing, order_entered, quote_ticket, side_cleared, quote_entered, OrderPasses, QuotePasses, Came, refused, row_withdrawn, clock_moved, order_taken, quote_taken, side_pulled, class_pulled, came, within_second}
 use Rattle.trading.proofs.Gone.{pull_in}
-use Rattle.laws.proofs.Steps.{Kept, order_ledger, order_ticket, order_terms, order_start, quote_ledger, quote_ticket, quote_terms, quote_start}
-use Rattle.laws.proofs.Notes.{Proper, step_noted}
+use Rattle.trading.proofs.Keeping.{pull_timed}
+use Rattle.laws.proofs.Steps.{Kept, cleared_settled, order_enters, quote_rests}
+use Rattle.laws.proofs.Notes.{Proper, came_noted}
 use Rattle.laws.proofs.Dated.{DatedAs, at, Dated, serve_dated, pull_dated, move_on_dated, enter_dated, enter_now_dated}
 
 -- each move of a journal was due, after the moment low and by the moment k
@@ -131,9 +121,8 @@ module _ (k : ℕ) (was : ℕ → Option ℕ) (low : ℕ) where
     widen (x ∷ xs) t = (by x.standing t.0, widen xs t.1)
       where
         by : (s : Standing) → DueIn low (low + 1000) s → DueIn low (k + 1000) s
-        by Plain d = tt
         by (Held c m) d = (d.0, let z = d.1 in omega arith)
-        by (Quote q) d = tt
+        by other d = tt
 
     -- and afterwards nobody is due
     pub advance_timed : {top : ℕ} (d : Desk) → Rested top d.rows → Timed low (low + 1000) d.rows → Timed k (k + 1000) (advance k d).rows
@@ -153,9 +142,6 @@ pub record Punctual (st : State) (h : History) : Type 0 where
 pub record Prompt (h : History) (o : Outcome) : Type 0 where
   pub timed : Timed o.next.clock (o.next.clock + 1000) o.next.rows
   pub dated : Dated o.next.clock (λ n. due_of n h) o.journal o.next.rows
-
-pull_timed : (low high : ℕ) (p : Row → Bool) (d : Desk) → Timed low high d.rows → Timed low high (pull p d).rows
-pull_timed low high p d t = pull_keeps (λ x. Timed low high x.rows) p (λ x r has z q. without_timed low high r.number x.rows q) d t
 
 held_timed : (k display limit : ℕ) (collar maker : Option ℕ) → DueIn k (k + 1000) (standing_by (k + 1000) display limit collar maker)
 held_timed k display limit None None = tt
@@ -180,53 +166,36 @@ module _ (m : Making) (refs : ℕ → Reference) {st : State} {h : History} (ok 
   unfolding Dated due_in
   start_dated k r i = on.dated r i
 
-  unless_prompt : (q : Option Refusal) (o : Outcome) → (q ≡ None → Prompt h o) → Prompt h (unless q st o)
-  unless_prompt None o go = go refl
-  unless_prompt (Some r) o go = record { timed = on.timed; dated = start_dated st.clock }
+  -- a call that leaves the clock leaves each held order due within a second of it
+  abbrev InTime : Desk → Type 0
+  InTime d = Timed st.clock (st.clock + 1000) d.rows × Dated st.clock (λ n. due_of n h) d.journal d.rows
 
   no_new : Lacks st.next st.rows
   no_new f i z = let b = ok.settled.0.0.numbered f i in let n = ok.next in omega arith
 
-  order_prompt : Lawful m.orders → (room : Room) (s : ℕ) (side : Side) (price : OrderPrice) (size : ℕ) → screening m st s side price ≡ Pass → (condition : Condition) → Prompt h (taken_order m st s side price size condition)
+  order_in_time : Lawful m.orders → (o : Order) → OrderPasses m st o → InTime (order_entered st o)
   unfolding enter_now
-  order_prompt law room s side price size pass Day =
-      let t = order_ticket m refs ok law room s side price size pass Day [] in
-      let p = priced (st.width s) side (limit_of side price) (st.nbbo s) in
-      record {
-        timed = enter_timed st.clock t p (desk st.rows) on.timed;
-        dated = enter_dated st.clock (λ n. due_of n h) (desk st.rows) ok.settled.0.0.distinct t p no_new (start_dated st.clock)
-            (rested_sane (order_ledger m refs ok law room s side price size pass Day []) (desk st.rows) (order_start m refs ok law room s side price size pass Day []) (second_after st.clock) t p (order_terms m refs ok law room s side price size pass Day []) ok.next);
-      }
-  order_prompt law room s side price size pass Immediate =
-      let t = order_ticket m refs ok law room s side price size pass Immediate [] in
-      record {
-        timed = take_timed st.clock (st.clock + 1000) (st.clock + 1000) (omega arith) (omega arith) (taker t t.limit) st.rows t.size [] on.timed;
-        dated = enter_now_dated st.clock (λ n. due_of n h) (desk st.rows) ok.settled.0.0.distinct t no_new (start_dated st.clock);
-      }
+  order_in_time law o pass =
+      let t = order_ticket st o in
+      let p = day_pricing st o in
+      order_enters m refs ok InTime o law pass
+      (λ day sane. (enter_timed st.clock t p (desk st.rows) on.timed, enter_dated st.clock (λ n. due_of n h) (desk st.rows) ok.settled.0.0.distinct t p no_new (start_dated st.clock) sane)) (
+        take_timed st.clock (st.clock + 1000) (st.clock + 1000) (omega arith) (omega arith) (taker t t.limit) st.rows t.size [] on.timed,
+        enter_now_dated st.clock (λ n. due_of n h) (desk st.rows) ok.settled.0.0.distinct t no_new (start_dated st.clock),
+      )
 
-  order_by_prompt : Lawful m.orders → (room : Room) (s : ℕ) (side : Side) (price : OrderPrice) (size : ℕ) (condition : Condition) (v : Verdict) → screening m st s side price ≡ v → Prompt h (order_by m st v s side price size condition)
-  order_by_prompt law room s side price size condition Pass e = order_prompt law room s side price size e condition
-  order_by_prompt law room s side price size condition (Refused why) e = record { timed = on.timed; dated = start_dated st.clock }
+  pulled_in_time : (p : Row → Bool) → InTime (pull p (desk st.rows))
+  pulled_in_time p = (pull_timed st.clock (st.clock + 1000) p (desk st.rows) on.timed, pull_dated st.clock (λ n. due_of n h) p (desk st.rows) (start_dated st.clock))
 
-  pulled_prompt : (p : Row → Bool) → Timed st.clock (st.clock + 1000) (pull p (desk st.rows)).rows × Dated st.clock (λ n. due_of n h) (pull p (desk st.rows)).journal (pull p (desk st.rows)).rows
-  pulled_prompt p = (pull_timed st.clock (st.clock + 1000) p (desk st.rows) on.timed, pull_dated st.clock (λ n. due_of n h) p (desk st.rows) (start_dated st.clock))
-
-  refused_prompt : (x : Extent) (k s : ℕ) (side : Side) (why : Cause) → Prompt h (refused_quote m st x why k s side)
-  refused_prompt OneSide k s side why = let z = pulled_prompt (on_side k s side) in record { timed = z.0; dated = z.1 }
-  refused_prompt WholeClass k s side why = let z = pulled_prompt (in_class m k (class_of m s)) in record { timed = z.0; dated = z.1 }
-
-  quote_prompt : Lawful m.quotes → (room : Room) (k s : ℕ) (side : Side) (price size : ℕ) → st.shut k (class_of m s) ≡ false → (v : Verdict) → m.quotes (view_in m st s) side price ≡ v → Prompt h (quote_by m st v k s side price size)
-  quote_prompt law room k s side price size free (Refused why) e = refused_prompt (m.extent (view_in m st s) side price) k s side why
-  quote_prompt law room k s side price size free Pass e =
-      let d = pull (on_side k s side) (desk st.rows) in
-      let t = quote_ticket m refs ok room k s side price size law e free [] in
-      let start = quote_start m refs ok room k s side price size law e free [] in
-      let z = pulled_prompt (on_side k s side) in
-      record {
-        timed = enter_timed st.clock t (AtLimit price) d z.0;
-        dated = enter_dated st.clock (λ n. due_of n h) d start.0.0.distinct t (AtLimit price) (λ f i. no_new f (pull_in (on_side k s side) (desk st.rows) f i)) z.1
-            (rested_sane (quote_ledger m refs ok room k s side price size law e free []) d start (second_after st.clock) t (AtLimit price) (quote_terms m refs ok room k s side price size law e free []) ok.next);
-      }
+  quote_in_time : Lawful m.quotes → (q : Quote) → QuotePasses m st q → st.shut q.maker (class_of m q.series) ≡ false → InTime (quote_entered st q)
+  quote_in_time law q pass free =
+      let mine = on_side q.maker q.series q.side in
+      let d = side_cleared st q in
+      let t = quote_ticket st q in
+      let z = pulled_in_time mine in (
+        enter_timed st.clock t (AtLimit q.price) d z.0,
+        enter_dated st.clock (λ n. due_of n h) d (cleared_settled m refs ok mine).0.0.distinct t (AtLimit q.price) (λ f i. no_new f (pull_in mine (desk st.rows) f i)) z.1 (quote_rests m refs ok q law pass free),
+      )
 
   -- T finds each order due after the clock, and leaves it so
   clock_ticking : (ms : ℕ) → ms ≤ 1000 → (let k = st.clock + ms in let d = advance k (desk st.rows) in Timed k (k + 1000) d.rows × Dated k (λ n. due_of n h) d.journal d.rows × AllDue k (λ n. due_of n h) st.clock d.journal)
@@ -241,38 +210,31 @@ module _ (m : Making) (refs : ℕ → Reference) {st : State} {h : History} (ok 
       }) in
       (advance_timed k (λ n. due_of n h) st.clock (omega arith) (omega arith) (desk st.rows) ok.settled.0 on.timed, t.dated, t.fallen)
 
-  within_second : (room : Room) (ms : ℕ) → first (tests_clock m st room ms) ≡ None → ms ≤ 1000
-  within_second room ms e = ltb-false 1000 ms (or_parts (ltb 1000 ms) _ (none_met (tests_clock m st room ms) e).1.0).0
+  prompt : (o : Outcome) → Timed o.next.clock (o.next.clock + 1000) o.next.rows × Dated o.next.clock (λ n. due_of n h) o.journal o.next.rows → Prompt h o
+  prompt o p = record { timed = p.0; dated = p.1 }
+
+  came_prompt : Lawful m.orders → Lawful m.quotes → {room : Room} {c : Call} {o : Outcome} → Came m st room c o → Prompt h o
+  came_prompt lo lq (order_taken o met pass) = prompt _ (order_in_time lo o pass)
+  came_prompt lo lq (quote_taken q met pass) = prompt _ (quote_in_time lq q pass met.1.1.1.1.1.1.0)
+  came_prompt lo lq (side_pulled q why extent) = prompt _ (pulled_in_time (on_side q.maker q.series q.side))
+  came_prompt lo lq (class_pulled q why extent) = prompt _ (pulled_in_time (in_class m q.maker (class_of m q.series)))
+  came_prompt lo lq (row_withdrawn n) = prompt _ (pulled_in_time (numbered n))
+  came_prompt lo lq {room} (clock_moved ms met) = let p = clock_ticking ms (within_second m st room ms met) in prompt _ (p.0, p.1)
+  came_prompt lo lq other = prompt _ (on.timed, start_dated st.clock)
 
   pub step_prompt : Lawful m.orders → Lawful m.quotes → (room : Room) (c : Call) → Prompt h (step m st room c)
-  step_prompt lo lq room (call.Nbbo s b o) = unless_prompt (first (tests_nbbo m st s b o)) (taken_nbbo m st s b o) (λ z. record { timed = on.timed; dated = start_dated st.clock })
-  step_prompt lo lq room (call.Event c e) = unless_prompt (first (tests_event m st c e)) (taken_event m st c e) (λ z. record { timed = on.timed; dated = start_dated st.clock })
-  step_prompt lo lq room (call.Order s side price size condition) = unless_prompt (first (tests_order m st room s price size condition)) (order_by m st (screening m st s side price) s side price size condition) (λ z. order_by_prompt lo room s side price size condition (screening m st s side price) refl)
-  step_prompt lo lq room (call.Quote k s side price size) = unless_prompt (first (tests_quote m st room k s side price size)) (quote_by m st (m.quotes (view_in m st s) side price) k s side price size) (λ z. quote_prompt lq room k s side price size (none_met (tests_quote m st room k s side price size) z).1.1.1.1.1.1.0 (m.quotes (view_in m st s) side price) refl)
-  step_prompt lo lq room (call.Enable k c) = unless_prompt (first (tests_enable m st k c)) (taken_enable m st k c) (λ z. record { timed = on.timed; dated = start_dated st.clock })
-  step_prompt lo lq room (call.Withdraw n) = unless_prompt (first (tests_withdraw m st room n)) (taken_withdraw m st n) (λ z. let p = pulled_prompt (numbered n) in record { timed = p.0; dated = p.1 })
-  step_prompt lo lq room (call.Clock ms) = unless_prompt (first (tests_clock m st room ms)) (taken_clock m st ms) (λ z. let p = clock_ticking ms (within_second room ms z) in record { timed = p.0; dated = p.1 })
-  step_prompt lo lq room (call.Width s w i j) = unless_prompt (first (tests_width m st s w i j)) (taken_width m st s w) (λ z. record { timed = on.timed; dated = start_dated st.clock })
+  step_prompt lo lq room c = came_prompt lo lq (came m st room c)
 
   -- ---- what moves has fallen due
 
-  unmoved : (c : Call) (o : Outcome) → is_clock c ≡ false → AllByRecursion (Proper c o.answer) o.journal → AllDue o.next.clock (λ n. due_of n h) st.clock o.journal
-  unmoved c o off a = none_moved o.next.clock (λ n. due_of n h) st.clock c o.answer off o.journal a
-
-  unless_fallen : (q : Option Refusal) (o : Outcome) → (q ≡ None → AllDue o.next.clock (λ n. due_of n h) st.clock o.journal) → AllDue (unless q st o).next.clock (λ n. due_of n h) st.clock (unless q st o).journal
+  came_fallen : {room : Room} {c : Call} {o : Outcome} → Came m st room c o → AllDue o.next.clock (λ n. due_of n h) st.clock o.journal
   unfolding AllDue
-  unless_fallen None o go = go refl
-  unless_fallen (Some r) o go = tt
+  came_fallen (refused r mild) = tt
+  came_fallen {room} (clock_moved ms met) = (clock_ticking ms (within_second m st room ms met)).2
+  came_fallen {room} {c} {o} other = none_moved o.next.clock (λ n. due_of n h) st.clock c o.answer refl o.journal (came_noted m st ok.settled.0 other)
 
   pub step_fallen : (room : Room) (c : Call) → AllDue (step m st room c).next.clock (λ n. due_of n h) st.clock (step m st room c).journal
-  step_fallen room (call.Nbbo s b o) = unmoved (call.Nbbo s b o) (step m st room (call.Nbbo s b o)) refl (step_noted m st ok.settled.0 room (call.Nbbo s b o))
-  step_fallen room (call.Event c e) = unmoved (call.Event c e) (step m st room (call.Event c e)) refl (step_noted m st ok.settled.0 room (call.Event c e))
-  step_fallen room (call.Order s side price size condition) = unmoved (call.Order s side price size condition) (step m st room (call.Order s side price size condition)) refl (step_noted m st ok.settled.0 room (call.Order s side price size condition))
-  step_fallen room (call.Quote k s side price size) = unmoved (call.Quote k s side price size) (step m st room (call.Quote k s side price size)) refl (step_noted m st ok.settled.0 room (call.Quote k s side price size))
-  step_fallen room (call.Enable k c) = unmoved (call.Enable k c) (step m st room (call.Enable k c)) refl (step_noted m st ok.settled.0 room (call.Enable k c))
-  step_fallen room (call.Withdraw n) = unmoved (call.Withdraw n) (step m st room (call.Withdraw n)) refl (step_noted m st ok.settled.0 room (call.Withdraw n))
-  step_fallen room (call.Clock ms) = unless_fallen (first (tests_clock m st room ms)) (taken_clock m st ms) (λ z. (clock_ticking ms (within_second room ms z)).2)
-  step_fallen room (call.Width s w i j) = unmoved (call.Width s w i j) (step m st room (call.Width s w i j)) refl (step_noted m st ok.settled.0 room (call.Width s w i j))
+  step_fallen room c = came_fallen (came m st room c)
 
   -- in the words of the history
   pub punctual_next : (a : Asked) (o : Outcome) → Prompt h o → Kept m refs o.next (entry_of a o ∷ h) → Punctual o.next (entry_of a o ∷ h)

@@ -1,28 +1,25 @@
 -- A maker has one quote on a side of a series, so that no call withdraws more than 128 rows.
 use Rattle.std.proofs.Common.{◌≡◌, ℕ, zero, suc, ◌+◌, ◌*◌, ◌<◌, ◌≤◌, Bool, true, false, cond, ◌&&◌, eqb, ltb, ◌⊎◌, List, [], ◌∷◌, length, Some, None, Option, sym, refl, ap, ◌∙◌, subst, inl, inr, ⊎_elim, arith, length-append}
-use Rattle.std.proofs.lemmas.Bool.{ltb-true, lt-ltb, eqb-true, eq-eqb, and_parts, and_from, cond_both, cases_eq}
+use Rattle.std.proofs.lemmas.Bool.{ltb-true, lt-ltb, eqb-true, eq-eqb, and_parts, and_from, cases_eq}
 use Rattle.values.specs.declared.side.Side.{Side}
 use Rattle.values.specs.declared.side.Side.TheVariants.{Buy, Sell}
 use Rattle.collars.specs.declared.pricing.Pricing.{Pricing}
-use Rattle.collars.specs.declared.pricing.Pricing.TheVariants.{AtLimit, Wide, Narrow}
 use Rattle.collars.specs.Pricings.{reach_of, display_of as restsAt, collar_of}
 use Rattle.book.specs.declared.row.Row.{Row}
 use Rattle.book.specs.declared.row.Standing.{Standing}
 use Rattle.book.specs.declared.row.Standing.TheVariants.{Plain, Held, Quote}
-use Rattle.book.specs.Lists.{lacking}
-use Rattle.book.specs.Rows.{same_side, numbered, without, row_of, once_moved, moved_to}
+use Rattle.book.specs.Rows.{same_side, without, row_of, once_moved, moved_to}
 use Rattle.book.specs.Taking.{Fill, take, Has}
 use Rattle.trading.specs.declared.ticket.Ticket.{Ticket}
 use Rattle.trading.specs.Journals.{Event, withdrawals_of, noting}
-use Rattle.trading.specs.Desks.{Desk, taker_of, serve_row, serve, withdrawn, pull, second_after, move_on, advance, taker, last_price, held_at, standing_by, row_for, show_first, show_last, rest, enter, lapse}
+use Rattle.trading.specs.Desks.{Desk, withdrawn, pull, second_after, move_on, advance, taker, last_price, held_at, standing_by, row_for, show_first, rest, enter, lapse}
 use Rattle.trading.proofs.Sides.{clash, decide, same_side_lem}
 use Rattle.trading.proofs.Faces.{quote, role_of, Face, face, face_number, In, insert_in, without_in, take_in, has_in, Distinct}
 use Rattle.trading.proofs.Resting.{Rested, onwards, moved_rows, serve_within, serve_rested, move_on_sane, move_on_others}
-use Rattle.trading.proofs.Volumes.{withdrawals_noted}
+use Rattle.trading.proofs.Pulled.{count_less}
 use Rattle.market.specs.Tests.{is_mine}
 use Rattle.trading.specs.Doing.{count}
-use Rattle.laws.proofs.Keeping.{serve_keeps, pull_keeps, advance_keeps}
-use Rattle.laws.proofs.Volumes.{count_without}
+use Rattle.laws.proofs.Keeping.{pull_keeps, advance_keeps}
 
 -- ---- counting rows
 
@@ -64,15 +61,6 @@ count_split p a b c h (x ∷ xs) =
     s)
     (h x e))
     (λ e. let z : cond {A = ℕ} (p x) 1 0 ≡ 0 = rw e in omega (arith, count_split p a b c h xs))
-
-pub count_less : (p : Row → Bool) (r : Row) (xs : List Row) → Has r xs → p r ≡ true → suc (count p (without r.number xs)) ≤ count p xs
-unfolding count lacking
-count_less p r [] h e = absurd h
-count_less p r (x ∷ xs) (inl s) e =
-    let n : numbered r.number x ≡ true = eq-eqb x.number r.number (ap (λ (y : Row). y.number) (sym s)) in
-    let one : cond {A = ℕ} (p x) 1 0 ≡ 1 = rw (subst (λ (y : Row). p y ≡ true) s e) in
-    rw n (omega (arith, count_without p r.number xs))
-count_less p r (x ∷ xs) (inr h) e = cond_both (numbered r.number x) (without r.number xs) (x ∷ without r.number xs) (λ l. suc (count p l) ≤ count p (x ∷ xs)) (λ z. omega (arith, count_less p r xs h e)) (λ z. omega (arith, count_less p r xs h e))
 
 -- ---- one quote for each maker, series and side
 
@@ -198,42 +186,6 @@ pull_spare p d =
     (λ x r has z h. omega (arith, h, count_less p r x.rows has z, withdrawn_length r x.journal))
     d (omega arith) in
     omega arith
-
--- trading, serving and moving withdraw nothing
-serve_spare : (due s : ℕ) (d : Desk) → withdrawals_of (serve due s d).journal ≡ withdrawals_of d.journal
-unfolding serve_row
-serve_spare due s d = serve_keeps (λ x. withdrawals_of x.journal ≡ withdrawals_of d.journal) due s (λ x r c m has how h. withdrawals_noted (take due (taker_of r c) r.size x.rows []).trades x.journal ∙ h) d refl
-
-pub advance_spare : {top : ℕ} (k : ℕ) (d : Desk) → Rested top d.rows → withdrawals_of (advance k d).journal ≡ withdrawals_of d.journal
-unfolding move_on
-advance_spare {top} k d ok =
-    (advance_keeps (λ x. Rested top x.rows × (withdrawals_of x.journal ≡ withdrawals_of d.journal)) k (λ x p. p.0.0.distinct)
-    (λ x r c m at how due p. (
-      serve_rested (move_on r c m x) (second_after k) r.series (move_on_sane x p.0 r c m m at how) (move_on_others x p.0 r c m m at how),
-      serve_spare (second_after k) r.series (move_on r c m x) ∙ p.1,
-    ))
-    d (ok, refl)).1
-
-pub enter_spare : (due : ℕ) (t : Ticket) (p : Pricing) (d : Desk) → withdrawals_of (enter due t p d).journal ≡ withdrawals_of d.journal
-unfolding enter rest
-enter_spare due t p d =
-    let f = take due (taker t (reach_of p)) t.size d.rows [] in
-    let j = noting f.trades (show_first t p d.journal) in
-    serve_spare due t.series (rest due t p f f.left j) ∙ rested f.left f j ∙ withdrawals_noted f.trades (show_first t p d.journal) ∙ firstly p
-  where
-    firstly : (p : Pricing) → withdrawals_of (show_first t p d.journal) ≡ withdrawals_of d.journal
-    firstly (AtLimit l) = refl
-    firstly (Wide x reach c) = refl
-    firstly (Narrow x reach c) = refl
-
-    lastly : (p : Pricing) (s : ℕ) (j : List Event) → withdrawals_of (show_last t p s j) ≡ withdrawals_of j
-    lastly (AtLimit l) s j = refl
-    lastly (Wide x reach c) s j = refl
-    lastly (Narrow x reach c) s j = refl
-
-    rested : (n : ℕ) (f : Fill) (j : List Event) → withdrawals_of (rest due t p f n j).journal ≡ withdrawals_of j
-    rested zero f j = refl
-    rested (suc n) f j = lastly p (restsAt p (last_price f.trades)) j
 
 pub lapse_spare : (i n : ℕ) (j : List Event) → length (withdrawals_of (lapse i n j)) ≤ suc (length (withdrawals_of j))
 lapse_spare i zero j = omega arith

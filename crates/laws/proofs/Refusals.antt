@@ -1,33 +1,28 @@
 -- A refused call gives no trade, uses no number and leaves no trace.
-use Rattle.std.proofs.Common.{◌≡◌, ℕ, suc, ◌<◌, Bool, true, false, not, ◌&&◌, eqb, ◌⊎◌, List, [], ◌∷◌, ◌++◌, length, is_some, Some, None, Ok, Option, sym, refl, ap, ◌∙◌, subst, inl, inr, ⊎_elim, arith}
+use Rattle.std.proofs.Common.{◌≡◌, ℕ, suc, ◌<◌, Bool, true, false, not, ◌&&◌, eqb, ◌⊎◌, List, [], ◌∷◌, ◌++◌, length, is_some, Some, None, Ok, Err, sym, refl, ap, ◌∙◌, subst, inl, inr, ⊎_elim, arith}
 use mathlib.Core.Path.{fun_ext}
 use Rattle.std.proofs.lemmas.Bool.{eqb-true, and_parts, not-true}
-use Rattle.values.specs.declared.order.OrderPrice.{OrderPrice}
-use Rattle.values.specs.declared.order.Condition.{Condition}
+use Rattle.values.specs.declared.call.Call.{Call}
+use Rattle.values.specs.declared.call.Call.TheVariants as call
+use Rattle.values.specs.declared.call.Quote.{Quote}
 use Rattle.values.specs.declared.reference.Reference.{Reference}
 use Rattle.values.specs.declared.refusal.Cause.{Cause}
 use Rattle.values.specs.declared.refusal.Refusal.{Refusal}
 use Rattle.values.specs.declared.refusal.Refusal.TheVariants.{Screen}
-use Rattle.values.specs.declared.side.Side.{Side}
-use Rattle.screens.specs.declared.view.Verdict.{Verdict}
-use Rattle.screens.specs.declared.view.Verdict.TheVariants.{Pass, Refused}
-use Rattle.screens.specs.declared.view.Extent.{Extent}
-use Rattle.screens.specs.declared.view.Extent.TheVariants.{OneSide, WholeClass}
 use Rattle.book.specs.declared.row.Row.{Row}
 use Rattle.trading.specs.Desks.{Desk, pull}
 use Rattle.trading.specs.Doing.{desk}
 use Rattle.trading.proofs.Sides.{clash}
-use Rattle.market.specs.declared.call.Call.{Call}
-use Rattle.market.specs.declared.call.Call.TheVariants as call
-use Rattle.market.specs.States.{Making, State, Room, Outcome, class_of, view_in}
-use Rattle.market.specs.Tests.{first, on_side, in_class, tests_nbbo, tests_event, tests_order, tests_quote, tests_enable, tests_withdraw, tests_clock, tests_width}
-use Rattle.market.specs.Calls.{refuse, unless, taken_nbbo, taken_event, taken_enable, taken_withdraw, taken_clock, taken_width, screening, order_by, refused_quote, quote_by, step}
+use Rattle.market.specs.States.{Making, State, Room, Outcome, class_of, set_shut}
+use Rattle.market.specs.Tests.{on_side, in_class}
+use Rattle.market.specs.Calls.{refuse, step}
 use Rattle.laws.specs.Histories.{Entry, History}
 use Rattle.laws.specs.Runs.{Asked, entry_of, run}
-use Rattle.laws.specs.Admissions.{is_taken, brought_by, admits, admitted_in}
+use Rattle.laws.specs.Admissions.{is_taken, gave, brought_by, admits, admitted_in}
 use Rattle.laws.specs.Shutouts.{is_screened, shut_after, shut_out}
 use Rattle.laws.specs.Refusals.{is_quote, is_moot, Withdrawals, EveryRunRefusesIdly, latest, Traceless, EveryRefusalLeavesNoTrace}
 use Rattle.laws.proofs.Keeping.{pull_keeps}
+use Rattle.laws.proofs.Outcomes.{Came, refused, order_taken, quote_taken, side_pulled, class_pulled, came}
 use Rattle.laws.proofs.Notes.{pulled_alone}
 use Rattle.laws.proofs.Steps.{Kept, step_kept}
 use Rattle.laws.proofs.Runs.{run_kept}
@@ -63,21 +58,17 @@ pub record Idly (st : State) (a : Asked) (o : Outcome) : Type 0 where
 refuse_idly : (st : State) (a : Asked) (r : Refusal) → Idly st a (refuse st r)
 refuse_idly st a r = record { moot = λ z. refl; reduced = λ z. record { same = refl; rows = λ y. refl }; alone = λ z. tt; numbered = λ n z. absurd (clash false (and_parts (is_some (brought_by a.1)) false z).1 refl) }
 
-unless_idly : (st : State) (a : Asked) (q : Option Refusal) (o : Outcome) → Idly st a o → Idly st a (unless q st o)
-unless_idly st a None o go = go
-unless_idly st a (Some r) o go = refuse_idly st a r
-
 -- taken, with no number given
-plainly : (st : State) (a : Asked) (o : Outcome) → o.answer ≡ Ok 0 → is_some (brought_by a.1) ≡ false → Idly st a o
-plainly st a o e b = record {
+plainly : (st : State) (a : Asked) (o : Outcome) → o.answer ≡ Ok None → Idly st a o
+plainly st a o e = record {
   moot = λ z. absurd (clash (is_moot (entry_of a o)) z (rw e));
   reduced = λ z. absurd (clash (is_taken o.answer) (ap is_taken e) z);
   alone = λ z. absurd (clash (is_taken o.answer) (ap is_taken e) z);
-  numbered = λ n z. absurd (clash (is_some (brought_by a.1)) (and_parts (is_some (brought_by a.1)) _ z).0 b);
+  numbered = λ n z. absurd (clash (gave n o.answer) (and_parts (is_some (brought_by a.1)) (gave n o.answer) z).1 (ap (gave n) e));
 }
 
 -- taken, with the next number given
-next_given : (st : State) (a : Asked) (o : Outcome) → o.answer ≡ Ok st.next → is_some (brought_by a.1) ≡ true → Idly st a o
+next_given : (st : State) (a : Asked) (o : Outcome) → o.answer ≡ Ok (Some st.next) → is_some (brought_by a.1) ≡ true → Idly st a o
 next_given st a o e b = record {
   moot = λ z. absurd (clash (is_moot (entry_of a o)) z (rw e));
   reduced = λ z. absurd (clash (is_taken o.answer) (ap is_taken e) z);
@@ -85,28 +76,26 @@ next_given st a o e b = record {
   numbered = λ n z. let y : eqb st.next n ≡ true = rw (b, e) at z in sym (eqb-true st.next n y);
 }
 
+-- a quote that its screen refuses, where the rows that p names are withdrawn
+pulled_idly : (st : State) (room : Room) (q : Quote) (why : Cause) (p : Row → Bool) (shut : ℕ → ℕ → Bool) → (let d = pull p (desk st.rows) in Idly st (room, call.Quote q) (record { answer = Err (Screen why); next = record { nbbo = st.nbbo; reference = st.reference; width = st.width; shut = shut; rows = d.rows; clock = st.clock; next = st.next }; journal = d.journal }))
+pulled_idly st room q why p shut = record {
+  moot = λ z. absurd (clash false z refl);
+  reduced = λ z. record { same = refl; rows = λ y. pull_still p (desk st.rows) refl y };
+  alone = λ z. pulled_alone p (desk st.rows) tt;
+  numbered = λ n z. absurd (clash false z refl);
+}
+
 module _ (m : Making) (st : State) where
-  order_idly : (room : Room) (s : ℕ) (side : Side) (price : OrderPrice) (size : ℕ) (condition : Condition) (v : Verdict) → Idly st (room, call.Order s side price size condition) (order_by m st v s side price size condition)
-  order_idly room s side price size condition Pass = next_given st (room, call.Order s side price size condition) _ refl refl
-  order_idly room s side price size condition (Refused why) = refuse_idly st (room, call.Order s side price size condition) (Screen why)
-
-  refused_idly : (room : Room) (k s : ℕ) (side : Side) (price size : ℕ) (x : Extent) (why : Cause) → Idly st (room, call.Quote k s side price size) (refused_quote m st x why k s side)
-  refused_idly room k s side price size OneSide why = record { moot = λ z. absurd (clash false z refl); reduced = λ z. record { same = refl; rows = λ y. pull_still (on_side k s side) (desk st.rows) refl y }; alone = λ z. pulled_alone (on_side k s side) (desk st.rows) tt; numbered = λ n z. absurd (clash false z refl) }
-  refused_idly room k s side price size WholeClass why = record { moot = λ z. absurd (clash false z refl); reduced = λ z. record { same = refl; rows = λ y. pull_still (in_class m k (class_of m s)) (desk st.rows) refl y }; alone = λ z. pulled_alone (in_class m k (class_of m s)) (desk st.rows) tt; numbered = λ n z. absurd (clash false z refl) }
-
-  quote_idly : (room : Room) (k s : ℕ) (side : Side) (price size : ℕ) (v : Verdict) → Idly st (room, call.Quote k s side price size) (quote_by m st v k s side price size)
-  quote_idly room k s side price size Pass = next_given st (room, call.Quote k s side price size) _ refl refl
-  quote_idly room k s side price size (Refused why) = refused_idly room k s side price size (m.extent (view_in m st s) side price) why
+  came_idly : {room : Room} {c : Call} {o : Outcome} → Came m st room c o → Idly st (room, c) o
+  came_idly {room} (refused {c} r mild) = refuse_idly st (room, c) r
+  came_idly (order_taken o met pass) = next_given st _ _ refl refl
+  came_idly (quote_taken q met pass) = next_given st _ _ refl refl
+  came_idly {room} (side_pulled q why extent) = pulled_idly st room q why (on_side q.maker q.series q.side) st.shut
+  came_idly {room} (class_pulled q why extent) = pulled_idly st room q why (in_class m q.maker (class_of m q.series)) (set_shut q.maker (class_of m q.series) true st.shut)
+  came_idly other = plainly st _ _ refl
 
   pub step_idly : (room : Room) (c : Call) → Idly st (room, c) (step m st room c)
-  step_idly room (call.Nbbo s b o) = unless_idly st (room, call.Nbbo s b o) (first (tests_nbbo m st s b o)) (taken_nbbo m st s b o) (plainly st (room, call.Nbbo s b o) _ refl refl)
-  step_idly room (call.Event c e) = unless_idly st (room, call.Event c e) (first (tests_event m st c e)) (taken_event m st c e) (plainly st (room, call.Event c e) _ refl refl)
-  step_idly room (call.Order s side price size condition) = unless_idly st (room, call.Order s side price size condition) (first (tests_order m st room s price size condition)) (order_by m st (screening m st s side price) s side price size condition) (order_idly room s side price size condition (screening m st s side price))
-  step_idly room (call.Quote k s side price size) = unless_idly st (room, call.Quote k s side price size) (first (tests_quote m st room k s side price size)) (quote_by m st (m.quotes (view_in m st s) side price) k s side price size) (quote_idly room k s side price size (m.quotes (view_in m st s) side price))
-  step_idly room (call.Enable k c) = unless_idly st (room, call.Enable k c) (first (tests_enable m st k c)) (taken_enable m st k c) (plainly st (room, call.Enable k c) _ refl refl)
-  step_idly room (call.Withdraw n) = unless_idly st (room, call.Withdraw n) (first (tests_withdraw m st room n)) (taken_withdraw m st n) (plainly st (room, call.Withdraw n) _ refl refl)
-  step_idly room (call.Clock ms) = unless_idly st (room, call.Clock ms) (first (tests_clock m st room ms)) (taken_clock m st ms) (plainly st (room, call.Clock ms) _ refl refl)
-  step_idly room (call.Width s w i j) = unless_idly st (room, call.Width s w i j) (first (tests_width m st s w i j)) (taken_width m st s w) (plainly st (room, call.Width s w i j) _ refl refl)
+  step_idly room c = came_idly (came m st room c)
 
 -- a moot call shuts nobody out
 moot_shut : (m : Making) (refs : ℕ → Reference) (e : Entry) (before : History) → is_moot e ≡ true → (k c : ℕ) → shut_out m refs k c (e ∷ before) ≡ shut_out m refs k c before
@@ -117,14 +106,9 @@ moot_shut m refs e before z k c = by e.call (and_parts (not (is_taken e.answer))
     refused = not-true (is_taken e.answer) (and_parts (not (is_taken e.answer)) _ z).0
 
     by : (w : Call) → not (is_quote w && is_screened e.answer) ≡ true → shut_after m refs k c w e.answer before (shut_out m refs k c before) ≡ shut_out m refs k c before
-    by (call.Nbbo s bid offer) q = refl
-    by (call.Event i x) q = refl
-    by (call.Order s side price size condition) q = refl
-    by (call.Quote i s side price size) q = rw (not-true (is_screened e.answer) q)
-    by (call.Enable i d) q = rw refused
-    by (call.Withdraw i) q = refl
-    by (call.Clock ms) q = refl
-    by (call.Width s w i j) q = refl
+    by (call.Quote q) unscreened = rw (not-true (is_screened e.answer) unscreened)
+    by (call.Enable i d) unscreened = rw refused
+    by other unscreened = refl
 
 pub every_run_refuses_idly : EveryRunRefusesIdly
 every_run_refuses_idly m refs lo lq asked = record {

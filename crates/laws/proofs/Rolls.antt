@@ -1,10 +1,10 @@
 -- The journal is the truth of the rolls and of the rows.
-use Rattle.std.proofs.Common.{◌≡◌, ℕ, ◌-◌, List, [], ◌∷◌, ◌++◌, sym, refl, ap, ◌∙◌, inl, inr, append_assoc, append-nil, arith}
+use Rattle.std.proofs.Common.{◌≡◌, ℕ, ◌-◌, List, [], ◌∷◌, ◌++◌, sym, refl, ap, ◌∙◌, append_assoc, append-nil, arith}
 use Rattle.values.specs.declared.reference.Reference.{Reference}
 use Rattle.book.specs.declared.row.Row.{Row}
 use Rattle.book.specs.declared.row.Trade.{Trade}
 use Rattle.book.specs.declared.row.Withdrawal.{Withdrawal}
-use Rattle.book.specs.Taking.{Has as Stands-in, Has}
+use Rattle.book.specs.Taking.{Has}
 use Rattle.trading.specs.Journals.{Event, Shown, Moved, Traded, Withdrawn, trades_of, withdrawals_of}
 use Rattle.trading.proofs.Faces.{Face, face, has_in}
 use Rattle.trading.proofs.Each.{in_has}
@@ -46,16 +46,6 @@ every_roll_true h = record { trades = all_trades h; withdrawals = all_withdrawal
 
 -- ---- the rows
 
-to_has : (r : Row) (xs : List Row) → Stands-in r xs → Has r xs
-to_has r [] h = absurd h
-to_has r (x ∷ xs) (inl e) = inl e
-to_has r (x ∷ xs) (inr h) = inr (to_has r xs h)
-
-from_has : (r : Row) (xs : List Row) → Has r xs → Stands-in r xs
-from_has r [] h = absurd h
-from_has r (x ∷ xs) (inl e) = inl e
-from_has r (x ∷ xs) (inr h) = inr (from_has r xs h)
-
 module _ (m : Making) (refs : ℕ → Reference) {st : State} {h : History} (ok : Kept m refs st h) where
   true_row : (r : Row) → Has r st.rows → TrueRow r h
   true_row r has =
@@ -75,11 +65,11 @@ module _ (m : Making) (refs : ℕ → Reference) {st : State} {h : History} (ok 
 
   pub rows_are_true : RowsAreTrue st.rows h
   rows_are_true = record {
-    each = λ r i. true_row r (to_has r st.rows i);
+    each = true_row;
     all = λ n x r.
         let s = stands m refs ok n x r in
         let i = in_has s.at st.rows s.there in
-        (i.0, from_has i.0 st.rows i.1, sym (ap (λ (f : Face). f.number) i.2) ∙ s.numbered);
+        (i.0, i.1, sym (ap (λ (f : Face). f.number) i.2) ∙ s.numbered);
   }
 
 pub every_run_keeps_true_rows : EveryRunKeepsTrueRows

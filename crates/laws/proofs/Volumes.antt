@@ -22,6 +22,7 @@ use Rattle.trading.proofs.Resting.{Sane, Rested, serve_row_sane, serve_rested, o
 use Rattle.trading.proofs.Volumes.{take_fewer, serve_fewer, trades_noted, reversed_length}
 use Rattle.trading.specs.Doing.{count}
 use Rattle.laws.proofs.Keeping.{serve_keeps, pull_keeps, advance_keeps}
+use Rattle.laws.proofs.Enters.{balanced}
 
 pub noted_length : (ts : List Trade) (j : List Event) → length (trades_of (noting ts j)) ≡ length (trades_of j) + length ts
 noted_length ts j = ap length (trades_noted ts j) ∙ length-append (trades_of j) _ ∙ ap (λ (n : ℕ). length (trades_of j) + n) (reversed_length ts)
@@ -114,7 +115,7 @@ rest_volume due t p f (suc n) j =
     omega (arith, insert_length (row_for due t p at (suc n)) f.rows)
 
 -- it brings one row at most
-pub enter_volume : {top : ℕ} (d : Desk) → Rested top d.rows → (due : ℕ) (t : Ticket) (p : Pricing) → (more : ℕ) → Sane more (rest due t p (take due (taker t (reach_of p)) t.size d.rows []) (take due (taker t (reach_of p)) t.size d.rows []).left (noting (take due (taker t (reach_of p)) t.size d.rows []).trades (show_first t p d.journal))).rows → volume (enter due t p d) ≤ suc (volume d)
+pub enter_volume : {top : ℕ} (d : Desk) → Rested top d.rows → (due : ℕ) (t : Ticket) (p : Pricing) (more : ℕ) → Sane more (balanced due t p d).rows → volume (enter due t p d) ≤ suc (volume d)
 unfolding enter
 enter_volume d ok due t p more sane =
     let who = taker t (reach_of p) in
@@ -124,18 +125,13 @@ enter_volume d ok due t p more sane =
     let few : length f.trades + length f.rows + min f.left 1 ≤ length d.rows + 1 = decide (ltb 0 f.left)
     (λ e. let l = ltb-true 0 f.left e in omega (arith, take_fewer due who d.rows t.size [] ok.0.positive l))
     (λ e. let l = ltb-false 0 f.left e in omega (arith, take_few due who t.size d.rows)) in
-    omega (arith, serve_volume due t.series (rest due t p f f.left j) sane, rest_volume due t p f f.left j, noted_length f.trades (show_first t p d.journal))
+    omega (arith, serve_volume due t.series (balanced due t p d) sane, rest_volume due t p f f.left j, noted_length f.trades (show_first t p d.journal))
 
 pub lapse_trades : (i n : ℕ) (j : List Event) → trades_of (lapse i n j) ≡ trades_of j
 lapse_trades i zero j = refl
 lapse_trades i (suc n) j = refl
 
 -- ---- withdrawals
-
-pub count_without : (p : Row → Bool) (n : ℕ) (xs : List Row) → count p (without n xs) ≤ count p xs
-unfolding lacking count
-count_without p n [] = omega arith
-count_without p n (x ∷ xs) = cond_both (numbered n x) (without n xs) (x ∷ without n xs) (λ l. count p l ≤ count p (x ∷ xs)) (λ e. omega (arith, count_without p n xs)) (λ e. omega (arith, count_without p n xs))
 
 -- where none passes, all of them do not
 pub count_all : (p : Row → Bool) (xs : List Row) → ((r : Row) → Has r xs → p r ≡ false) → count (λ r. not (p r)) xs ≡ length xs
@@ -145,8 +141,5 @@ count_all p (x ∷ xs) h =
     let one : cond {A = ℕ} (not (p x)) 1 0 ≡ 1 = rw (h x (inl refl)) in
     omega (arith, count_all p xs (λ r i. h r (inr i)))
 
-pub pull_volume : (p q : Row → Bool) (d : Desk) → (trades_of (pull p d).journal ≡ trades_of d.journal) × (count q (pull p d).rows ≤ count q d.rows) × (length (pull p d).rows ≤ length d.rows)
-pull_volume p q d =
-    pull_keeps (λ x. (trades_of x.journal ≡ trades_of d.journal) × (count q x.rows ≤ count q d.rows) × (length x.rows ≤ length d.rows)) p
-    (λ x r has z h. (h.0, omega (arith, count_without q r.number x.rows, h.1), omega (arith, without_length r.number x.rows, h.2)))
-    d (refl, omega arith, omega arith)
+pub pull_length : (p : Row → Bool) (d : Desk) → length (pull p d).rows ≤ length d.rows
+pull_length p d = pull_keeps (λ x. length x.rows ≤ length d.rows) p (λ x r has z h. omega (arith, without_length r.number x.rows, h)) d (omega arith)

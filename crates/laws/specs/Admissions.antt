@@ -1,10 +1,10 @@
 -- Who was admitted: an order or quote by the call that brought it, under the number that its answer gave.
 use Rattle.std.specs.Prelude.{ℕ, suc, Bool, true, false, cond, ◌&&◌, [], ◌∷◌, is_some, Some, None, Ok, Err, Option, ◌==◌}
+use Rattle.values.specs.declared.call.Call.{Call}
+use Rattle.values.specs.declared.call.Call.TheVariants as call
 use Rattle.values.specs.declared.side.Side.{Side}
 use Rattle.values.specs.Orders.{limit_of}
 use Rattle.book.specs.Lists.{or_else}
-use Rattle.market.specs.declared.call.Call.{Call}
-use Rattle.market.specs.declared.call.Call.TheVariants as call
 use Rattle.market.specs.States.{Answer}
 use Rattle.laws.specs.Histories.{Entry, History}
 
@@ -14,7 +14,8 @@ is_taken (Err r) = false
 
 -- the answer gave the number n
 abbrev pub gave : ℕ → Answer → Bool
-gave n (Ok i) = i == n
+gave n (Ok None) = false
+gave n (Ok (Some i)) = i == n
 gave n (Err r) = false
 
 -- an order or quote as its call brings it
@@ -29,14 +30,9 @@ pub record Party : Type 0 where
   pub maker : Option ℕ
 
 abbrev pub brought_by : Call → Option Party
-brought_by (call.Nbbo s bid offer) = None
-brought_by (call.Event c e) = None
-brought_by (call.Order s side price size condition) = Some (record { series = s; side = side; limit = limit_of side price; size = size; maker = None })
-brought_by (call.Quote k s side price size) = Some (record { series = s; side = side; limit = price; size = size; maker = Some k })
-brought_by (call.Enable k c) = None
-brought_by (call.Withdraw n) = None
-brought_by (call.Clock ms) = None
-brought_by (call.Width s w i j) = None
+brought_by (call.Order o) = Some (record { series = o.series; side = o.side; limit = limit_of o.side o.price; size = o.size; maker = None })
+brought_by (call.Quote q) = Some (record { series = q.series; side = q.side; limit = q.price; size = q.size; maker = Some q.maker })
+brought_by other = None
 
 -- the call brought an order or quote, and it was taken with the number n
 abbrev pub admits : ℕ → Entry → Bool

@@ -1,9 +1,9 @@
 -- How much room a market needs: what the book and the rolls hold is enough.
 use Rattle.std.specs.Prelude.{ℕ, ◌≤◌, List, length}
+use Rattle.values.specs.declared.call.Call.{Call}
 use Rattle.values.specs.declared.reference.Reference.{Reference}
 use Rattle.screens.specs.Screens.{Lawful}
 use Rattle.trading.specs.Journals.{trades_of, withdrawals_of}
-use Rattle.market.specs.declared.call.Call.{Call}
 use Rattle.market.specs.States.{Making, State, Room}
 use Rattle.market.specs.Calls.{step}
 use Rattle.laws.specs.Runs.{Asked, run}

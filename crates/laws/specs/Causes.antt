@@ -1,16 +1,14 @@
 -- A limit order is refused for the published causes alone.
 use Rattle.std.specs.Prelude.{◌≡◌, ℕ, ◌<◌, ◌≤◌, ◌⊎◌, List, [], ◌∷◌, length, Err, ◌≢◌}
 use Rattle.std.specs.List.{AllByRecursion}
+use Rattle.values.specs.declared.call.Call.TheVariants as call
+use Rattle.values.specs.declared.call.Order.{Order}
 use Rattle.values.specs.declared.order.OrderPrice.TheVariants.{Limit}
-use Rattle.values.specs.declared.order.Condition.{Condition}
 use Rattle.values.specs.declared.order.Condition.TheVariants.{Day}
 use Rattle.values.specs.declared.reference.Reference.{Reference}
 use Rattle.values.specs.declared.refusal.Refusal.{Refusal}
-use Rattle.values.specs.declared.refusal.Refusal.TheVariants.{Shape, Rows, Name, Price, Size, Crossed, Clock, Unknown, Dead, Same, Spent, Full, NoMarket, Shut, Late, Screen}
-use Rattle.values.specs.declared.side.Side.{Side}
-use Rattle.screens.specs.declared.view.Verdict.TheVariants.{Refused}
+use Rattle.values.specs.declared.refusal.Refusal.TheVariants.{Rows, Name, Price, Size, Spent, Full, Screen}
 use Rattle.screens.specs.Screens.{Lawful}
-use Rattle.market.specs.declared.call.Call.TheVariants as call
 use Rattle.market.specs.States.{Making, Room}
 use Rattle.laws.specs.Histories.{Entry, History, Made}
 use Rattle.laws.specs.Admissions.{Party, admitted_in}
@@ -34,32 +32,25 @@ pub record Crowded (h : History) : Type 0 where
   pub resting : AllByRecursion (λ n. Resting n h) numbers
 
 module _ (m : Making) (refs : ℕ → Reference) where
-  -- why a limit order may be refused, by its room, series, side, limit, size and condition and by what had been seen before it
-  abbrev pub CauseOf : Room → ℕ → Side → ℕ → ℕ → Condition → History → Refusal → Type 0
-  CauseOf room s side limit size condition h Shape = ⊥
-  CauseOf room s side limit size condition h Rows = (room.trades < 256) ⊎ (room.withdrawals < 128)
-  CauseOf room s side limit size condition h Name = length m.series ≤ s
-  CauseOf room s side limit size condition h Price = (limit < 1) ⊎ (10000000 < limit)
-  CauseOf room s side limit size condition h Size = (size < 1) ⊎ (999999 < size)
-  CauseOf room s side limit size condition h Crossed = ⊥
-  CauseOf room s side limit size condition h Clock = ⊥
-  CauseOf room s side limit size condition h Unknown = ⊥
-  CauseOf room s side limit size condition h Dead = ⊥
-  CauseOf room s side limit size condition h Same = ⊥
-  CauseOf room s side limit size condition h Spent = 999999 ≤ admitted_in h
-  CauseOf room s side limit size condition h Full = (condition ≡ Day) × Crowded h
-  CauseOf room s side limit size condition h NoMarket = ⊥
-  CauseOf room s side limit size condition h Shut = ⊥
-  CauseOf room s side limit size condition h Late = ⊥
+  -- why an order of that limit may be refused, by its room and by what had been seen before it
+  abbrev pub CauseOf : Room → Order → ℕ → History → Refusal → Type 0
+  CauseOf room o limit h Rows = (room.trades < 256) ⊎ (room.withdrawals < 128)
+  CauseOf room o limit h Name = length m.series ≤ o.series
+  CauseOf room o limit h Price = (limit < 1) ⊎ (10000000 < limit)
+  CauseOf room o limit h Size = (o.size < 1) ⊎ (999999 < o.size)
+  CauseOf room o limit h Spent = 999999 ≤ admitted_in h
+  CauseOf room o limit h Full = (o.condition ≡ Day) × Crowded h
   -- only where the screen refuses the limit, in the view of the moment
-  CauseOf room s side limit size condition h (Screen c) = m.orders (view_of m refs s h) side limit ≡ Refused c
+  CauseOf room o limit h (Screen c) = m.orders (view_of m refs o.series h) o.side limit ≡ Err c
+  -- and for nothing else
+  CauseOf room o limit h other = ⊥
 
   abbrev pub LimitOrdersAreRefusedForCause : History → Type 0
   LimitOrdersAreRefusedForCause h =
       (e : Entry) (before : History) → Made e before h
-      → (s : ℕ) (side : Side) (limit size : ℕ) (condition : Condition) (r : Refusal)
-      → e.call ≡ call.Order s side (Limit limit) size condition → e.answer ≡ Err r
-      → CauseOf e.room s side limit size condition before r
+      → (o : Order) (limit : ℕ) (r : Refusal)
+      → e.call ≡ call.Order o → o.price ≡ Limit limit → e.answer ≡ Err r
+      → CauseOf e.room o limit before r
 
 abbrev pub EveryRunRefusesForCause : Type 0
 EveryRunRefusesForCause = (m : Making) (refs : ℕ → Reference) → Lawful m.orders → Lawful m.quotes → (asked : List Asked) → LimitOrdersAreRefusedForCause m refs (run m refs asked).history

@@ -1,5 +1,7 @@
 -- The collar of an order: the width at its admission, if it was a marketable day order while both sides of the NBBO were present.
 use Rattle.std.specs.Prelude.{ℕ, Bool, true, cond, Some, None, Option}
+use Rattle.values.specs.declared.call.Call.{Call}
+use Rattle.values.specs.declared.call.Call.TheVariants as call
 use Rattle.values.specs.declared.nbbo.Nbbo.{Nbbo}
 use Rattle.values.specs.declared.order.OrderPrice.{OrderPrice}
 use Rattle.values.specs.declared.order.OrderPrice.TheVariants.{Market, Limit}
@@ -10,8 +12,6 @@ use Rattle.values.specs.declared.side.Side.TheVariants.{Buy, Sell}
 use Rattle.values.specs.Orders.{limit_of}
 use Rattle.values.specs.Sides.{no_more_aggressive}
 use Rattle.collars.specs.Collars.{width_by}
-use Rattle.market.specs.declared.call.Call.{Call}
-use Rattle.market.specs.declared.call.Call.TheVariants as call
 use Rattle.laws.specs.Histories.{History}
 use Rattle.laws.specs.Admissions.{Admission, admission}
 use Rattle.laws.specs.Views.{nbbo_of, width_of}
@@ -52,14 +52,8 @@ collar_for Day side price w b = collar_by side price w b.bid b.offer
 collar_for Immediate side price w b = None
 
 abbrev pub collar_at : Call → History → Option Collar
-collar_at (call.Nbbo s bid offer) h = None
-collar_at (call.Event c e) h = None
-collar_at (call.Order s side price size condition) h = collar_for condition side price (width_of s h) (nbbo_of s h)
-collar_at (call.Quote k s side price size) h = None
-collar_at (call.Enable k c) h = None
-collar_at (call.Withdraw n) h = None
-collar_at (call.Clock ms) h = None
-collar_at (call.Width s w i j) h = None
+collar_at (call.Order o) h = collar_for o.condition o.side o.price (width_of o.series h) (nbbo_of o.series h)
+collar_at other h = None
 
 abbrev pub collar_in : Option Admission → Option Collar
 collar_in None = None

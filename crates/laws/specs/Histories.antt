@@ -1,7 +1,7 @@
 -- What is seen of a market: its calls, one after another, each with its answer and with what befell the rows.
 use Rattle.std.specs.Prelude.{◌≡◌, List, [], ◌∷◌, ◌++◌}
+use Rattle.values.specs.declared.call.Call.{Call}
 use Rattle.trading.specs.Journals.{Event}
-use Rattle.market.specs.declared.call.Call.{Call}
 use Rattle.market.specs.States.{Room, Answer}
 
 pub record Entry : Type 0 where

@@ -1,12 +1,12 @@
 -- Display prices: O or Q gives one, once; T alone moves it, by exactly the collar or to the limit.
 use Rattle.std.specs.Prelude.{◌≡◌, ℕ, ◌+◌, ◌-◌, Bool, true, false, cond, List, Some, None, Option, nat_lt}
 use Rattle.std.specs.Option.{unwrap_or}
+use Rattle.values.specs.declared.call.Call.{Call}
+use Rattle.values.specs.declared.call.Call.TheVariants as call
 use Rattle.values.specs.declared.reference.Reference.{Reference}
 use Rattle.values.specs.Sides.{NoMoreAggressive, ahead, onward}
 use Rattle.screens.specs.Screens.{Lawful}
 use Rattle.trading.specs.Journals.{Event, Shown, Moved}
-use Rattle.market.specs.declared.call.Call.{Call}
-use Rattle.market.specs.declared.call.Call.TheVariants as call
 use Rattle.market.specs.States.{Making}
 use Rattle.laws.specs.Histories.{Entry, History, journal_of, Made, Befell, BefellIn}
 use Rattle.laws.specs.Admissions.{Party, admits, party_of}
@@ -15,14 +15,8 @@ use Rattle.laws.specs.Collars.{Collar, collar_of}
 use Rattle.laws.specs.Runs.{Asked, run}
 
 abbrev pub is_clock : Call → Bool
-is_clock (call.Nbbo s bid offer) = false
-is_clock (call.Event c e) = false
-is_clock (call.Order s side price size condition) = false
-is_clock (call.Quote k s side price size) = false
-is_clock (call.Enable k c) = false
-is_clock (call.Withdraw n) = false
 is_clock (call.Clock ms) = true
-is_clock (call.Width s w i j) = false
+is_clock other = false
 
 -- how far two prices are apart
 abbrev pub gap : ℕ → ℕ → ℕ

@@ -1,16 +1,18 @@
 -- What a market promises of every run: the four laws of price protection.
 use Rattle.std.specs.Prelude.{◌≡◌, ℕ, ◌<◌, false, List, Some, None, Option}
 use Rattle.std.specs.Option.{unwrap_or}
+use Rattle.values.specs.declared.call.Call.{Call}
+use Rattle.values.specs.declared.call.Call.TheVariants as call
+use Rattle.values.specs.declared.call.Order.{Order}
+use Rattle.values.specs.declared.order.OrderPrice.{OrderPrice}
 use Rattle.values.specs.declared.order.OrderPrice.TheVariants.{Market, Limit}
 use Rattle.values.specs.declared.reference.Reference.{Reference}
 use Rattle.values.specs.declared.side.Side.TheVariants.{Buy, Sell}
 use Rattle.values.specs.Sides.{NoMoreAggressive, ahead}
-use Rattle.screens.specs.declared.view.Verdict.TheVariants.{Pass}
 use Rattle.screens.specs.Screens.{Lawful}
+use Rattle.screens.specs.Views.{passes}
 use Rattle.book.specs.declared.row.Trade.{Trade}
 use Rattle.trading.specs.Journals.{Event, Traded}
-use Rattle.market.specs.declared.call.Call.{Call}
-use Rattle.market.specs.declared.call.Call.TheVariants as call
 use Rattle.market.specs.States.{Making, class_of}
 use Rattle.laws.specs.Histories.{History, journal_of, Befell}
 use Rattle.laws.specs.Admissions.{Party, Admission, admission}
@@ -38,18 +40,17 @@ BooksNeverCross h =
     → (p : ℕ) × (q : ℕ) × (display_of b (journal_of h) ≡ Some p) × (display_of o (journal_of h) ≡ Some q) × (p < q)
 
 module _ (m : Making) (refs : ℕ → Reference) where
+  -- the screen of an order, by its own price, passes the price p in the view of the moment; a market order has none
+  abbrev pub OrderPassesAt : ℕ → Order → OrderPrice → History → Type 0
+  OrderPassesAt p o Market h = Unit {0}
+  OrderPassesAt p o (Limit limit) h = m.orders (view_of m refs o.series h) o.side p ≡ passes
+
   -- the screen of the order or quote that the call brings, if it has one, passes the price p in the view of the moment; no other call
   -- brings one
   abbrev pub PassesAt : ℕ → Call → History → Type 0
-  PassesAt p (call.Nbbo s bid offer) h = ⊥
-  PassesAt p (call.Event c e) h = ⊥
-  PassesAt p (call.Order s side Market size condition) h = Unit {0}
-  PassesAt p (call.Order s side (Limit limit) size condition) h = m.orders (view_of m refs s h) side p ≡ Pass
-  PassesAt p (call.Quote k s side price size) h = m.quotes (view_of m refs s h) side p ≡ Pass
-  PassesAt p (call.Enable k c) h = ⊥
-  PassesAt p (call.Withdraw n) h = ⊥
-  PassesAt p (call.Clock ms) h = ⊥
-  PassesAt p (call.Width s w i j) h = ⊥
+  PassesAt p (call.Order o) h = OrderPassesAt p o o.price h
+  PassesAt p (call.Quote q) h = m.quotes (view_of m refs q.series h) q.side p ≡ passes
+  PassesAt p other h = ⊥
 
   abbrev pub PassesIn : ℕ → Option Admission → Type 0
   PassesIn p None = ⊥

@@ -1,11 +1,11 @@
 -- A refused call gives no trade, uses no number and leaves every later answer as if it had not been made, but for the withdrawals and
 -- the shutting out of a screen's refusal of a quote.
 use Rattle.std.specs.Prelude.{◌≡◌, ℕ, suc, Bool, true, false, not, ◌&&◌, List, [], ◌∷◌, ◌++◌, length, take}
+use Rattle.values.specs.declared.call.Call.{Call}
+use Rattle.values.specs.declared.call.Call.TheVariants as call
 use Rattle.values.specs.declared.reference.Reference.{Reference}
 use Rattle.screens.specs.Screens.{Lawful}
 use Rattle.trading.specs.Journals.{Event, Shown, Moved, Traded, Withdrawn}
-use Rattle.market.specs.declared.call.Call.{Call}
-use Rattle.market.specs.declared.call.Call.TheVariants as call
 use Rattle.market.specs.States.{Making}
 use Rattle.laws.specs.Histories.{Entry, History, Made}
 use Rattle.laws.specs.Admissions.{is_taken, admits, admitted_in}
@@ -13,14 +13,8 @@ use Rattle.laws.specs.Shutouts.{is_screened, shut_out}
 use Rattle.laws.specs.Runs.{Asked, run}
 
 abbrev pub is_quote : Call → Bool
-is_quote (call.Nbbo s bid offer) = false
-is_quote (call.Event c e) = false
-is_quote (call.Order s side price size condition) = false
-is_quote (call.Quote k s side price size) = true
-is_quote (call.Enable k c) = false
-is_quote (call.Withdraw n) = false
-is_quote (call.Clock ms) = false
-is_quote (call.Width s w i j) = false
+is_quote (call.Quote q) = true
+is_quote other = false
 
 -- refused, and not a quote by its screen
 abbrev pub is_moot : Entry → Bool

@@ -1,7 +1,7 @@
 -- The run of a list of calls from a market's making on.
 use Rattle.std.specs.Prelude.{ℕ, List, [], ◌∷◌}
+use Rattle.values.specs.declared.call.Call.{Call}
 use Rattle.values.specs.declared.reference.Reference.{Reference}
-use Rattle.market.specs.declared.call.Call.{Call}
 use Rattle.market.specs.States.{Making, State, Room, Outcome, fresh}
 use Rattle.market.specs.Calls.{step}
 use Rattle.laws.specs.Histories.{Entry, History}

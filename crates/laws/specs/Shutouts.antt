@@ -1,12 +1,12 @@
 -- Which makers are shut out of which classes.
 use Rattle.std.specs.Prelude.{ℕ, Bool, true, false, cond, ◌&&◌, [], ◌∷◌, Ok, Err, ◌==◌}
+use Rattle.values.specs.declared.call.Call.{Call}
+use Rattle.values.specs.declared.call.Call.TheVariants as call
 use Rattle.values.specs.declared.reference.Reference.{Reference}
 use Rattle.values.specs.declared.refusal.Refusal.{Refusal}
-use Rattle.values.specs.declared.refusal.Refusal.TheVariants.{Shape, Rows, Name, Price, Size, Crossed, Clock, Unknown, Dead, Same, Spent, Full, NoMarket, Shut, Late, Screen}
+use Rattle.values.specs.declared.refusal.Refusal.TheVariants.{Screen}
 use Rattle.screens.specs.declared.view.Extent.{Extent}
 use Rattle.screens.specs.declared.view.Extent.TheVariants.{OneSide, WholeClass}
-use Rattle.market.specs.declared.call.Call.{Call}
-use Rattle.market.specs.declared.call.Call.TheVariants as call
 use Rattle.market.specs.States.{Making, Answer, class_of}
 use Rattle.laws.specs.Histories.{History}
 use Rattle.laws.specs.Admissions.{is_taken}
@@ -14,22 +14,8 @@ use Rattle.laws.specs.Views.{view_of}
 
 -- a screen refused it
 abbrev pub by_screen : Refusal → Bool
-by_screen Shape = false
-by_screen Rows = false
-by_screen Name = false
-by_screen Price = false
-by_screen Size = false
-by_screen Crossed = false
-by_screen Clock = false
-by_screen Unknown = false
-by_screen Dead = false
-by_screen Same = false
-by_screen Spent = false
-by_screen Full = false
-by_screen NoMarket = false
-by_screen Shut = false
-by_screen Late = false
 by_screen (Screen c) = true
+by_screen other = false
 
 abbrev pub is_screened : Answer → Bool
 is_screened (Ok n) = false
@@ -41,14 +27,9 @@ reaches_class WholeClass = true
 
 module _ (m : Making) (refs : ℕ → Reference) where
   abbrev pub shut_after : ℕ → ℕ → Call → Answer → History → Bool → Bool
-  shut_after k c (call.Nbbo s bid offer) a h x = x
-  shut_after k c (call.Event i e) a h x = x
-  shut_after k c (call.Order s side price size condition) a h x = x
-  shut_after k c (call.Quote i s side price size) a h x = cond (is_screened a && (reaches_class (m.extent (view_of m refs s h) side price) && (k == i && c == class_of m s))) true x
+  shut_after k c (call.Quote q) a h x = cond (is_screened a && (reaches_class (m.extent (view_of m refs q.series h) q.side q.price) && (k == q.maker && c == class_of m q.series))) true x
   shut_after k c (call.Enable i d) a h x = cond (is_taken a && (k == i && c == d)) false x
-  shut_after k c (call.Withdraw n) a h x = x
-  shut_after k c (call.Clock ms) a h x = x
-  shut_after k c (call.Width s w i j) a h x = x
+  shut_after k c other a h x = x
 
   -- the maker k is shut out of the class c: a screen's refusal of a quote of k that reached the class came after the last E taken for
   -- the two

@@ -1,13 +1,13 @@
 -- What a market shows as a call comes: the NBBO and the width of each series, the reference of each class, the clock. Each goes by
 -- the calls that were taken before.
 use Rattle.std.specs.Prelude.{ℕ, ◌+◌, Bool, cond, ◌&&◌, [], ◌∷◌, None, Option, ◌==◌}
+use Rattle.values.specs.declared.call.Call.{Call}
+use Rattle.values.specs.declared.call.Call.TheVariants as call
 use Rattle.values.specs.declared.nbbo.Nbbo.{Nbbo}
 use Rattle.values.specs.declared.reference.Reference.{Reference}
 use Rattle.values.specs.Nbbos.{absent}
 use Rattle.values.specs.References.{after}
 use Rattle.screens.specs.declared.view.View.{View}
-use Rattle.market.specs.declared.call.Call.{Call}
-use Rattle.market.specs.declared.call.Call.TheVariants as call
 use Rattle.market.specs.States.{Making, class_of, view_by}
 use Rattle.laws.specs.Histories.{History}
 use Rattle.laws.specs.Admissions.{is_taken}
@@ -15,14 +15,8 @@ use Rattle.laws.specs.Admissions.{is_taken}
 -- ---- the NBBO of a series: by the last N taken for it, absent without one
 
 abbrev pub nbbo_after : ℕ → Call → Bool → Nbbo → Nbbo
-nbbo_after s (call.Nbbo i bid offer) ok x = cond (ok && s == i) (record { bid = bid; offer = offer }) x
-nbbo_after s (call.Event c e) ok x = x
-nbbo_after s (call.Order i side price size condition) ok x = x
-nbbo_after s (call.Quote k i side price size) ok x = x
-nbbo_after s (call.Enable k c) ok x = x
-nbbo_after s (call.Withdraw n) ok x = x
-nbbo_after s (call.Clock ms) ok x = x
-nbbo_after s (call.Width i w j k) ok x = x
+nbbo_after s (call.Nbbo i b) ok x = cond (ok && s == i) b x
+nbbo_after s other ok x = x
 
 unfoldable pub nbbo_of : ℕ → History → Nbbo
 nbbo_of s [] = absent
@@ -31,14 +25,8 @@ nbbo_of s (e ∷ h) = nbbo_after s e.call (is_taken e.answer) (nbbo_of s h)
 -- ---- the width that updates gave a series: by the last W taken for it; none where it goes by the ladder
 
 abbrev pub width_after : ℕ → Call → Bool → Option ℕ → Option ℕ
-width_after s (call.Nbbo i bid offer) ok x = x
-width_after s (call.Event c e) ok x = x
-width_after s (call.Order i side price size condition) ok x = x
-width_after s (call.Quote k i side price size) ok x = x
-width_after s (call.Enable k c) ok x = x
-width_after s (call.Withdraw n) ok x = x
-width_after s (call.Clock ms) ok x = x
-width_after s (call.Width i w j k) ok x = cond (ok && s == i) w x
+width_after s (call.Width u) ok x = cond (ok && s == u.series) u.width x
+width_after s other ok x = x
 
 unfoldable pub width_of : ℕ → History → Option ℕ
 width_of s [] = None
@@ -47,14 +35,8 @@ width_of s (e ∷ h) = width_after s e.call (is_taken e.answer) (width_of s h)
 -- ---- the reference of a class: what the events taken for it made of the reference at the making
 
 abbrev pub reference_after : ℕ → Call → Bool → Reference → Reference
-reference_after c (call.Nbbo i bid offer) ok x = x
 reference_after c (call.Event i e) ok x = cond (ok && c == i) (after e x) x
-reference_after c (call.Order i side price size condition) ok x = x
-reference_after c (call.Quote k i side price size) ok x = x
-reference_after c (call.Enable k i) ok x = x
-reference_after c (call.Withdraw n) ok x = x
-reference_after c (call.Clock ms) ok x = x
-reference_after c (call.Width i w j k) ok x = x
+reference_after c other ok x = x
 
 -- refs: the references at the making
 unfoldable pub reference_of : (ℕ → Reference) → ℕ → History → Reference
@@ -68,14 +50,8 @@ view_of m refs s h = view_by m s (nbbo_of s h) (reference_of refs (class_of m s)
 -- ---- the clock: moved on by each T that was taken
 
 abbrev pub clock_after : Call → Bool → ℕ → ℕ
-clock_after (call.Nbbo s bid offer) ok k = k
-clock_after (call.Event c e) ok k = k
-clock_after (call.Order s side price size condition) ok k = k
-clock_after (call.Quote i s side price size) ok k = k
-clock_after (call.Enable i c) ok k = k
-clock_after (call.Withdraw n) ok k = k
 clock_after (call.Clock ms) ok k = cond ok (k + ms) k
-clock_after (call.Width s w i j) ok k = k
+clock_after other ok k = k
 
 unfoldable pub clock_of : History → ℕ
 clock_of [] = 0

@@ -1,8 +1,6 @@
-pub mod Listed
 pub mod Blanks
-pub mod Told
 pub mod Quotas
-pub mod Moves
+pub mod Answered
 pub mod Ordered
-pub mod Taken
 pub mod Quoted
+pub mod Hints

@@ -1,8 +1,7 @@
--- What an order's tests give, and that its balance displays within its reach.
-use Rattle.std.proofs.Common.{◌≡◌, ℕ, ◌+◌, ◌-◌, ◌<◌, min, max, Bool, true, false, cond, not, ◌&&◌, ltb, List, [], ◌∷◌, Some, None, Option, sym, refl, ◌∙◌, subst, arith}
-use Rattle.std.proofs.lemmas.Bool.{leb-true, le-leb, ltb-true, ltb-false, not-true, cond_both}
+-- That the balance of an order displays within its reach.
+use Rattle.std.proofs.Common.{◌≡◌, ℕ, ◌+◌, ◌-◌, ◌<◌, min, max, Bool, true, false, not, ◌&&◌, ltb, List, Some, None, Option, refl, subst, arith}
+use Rattle.std.proofs.lemmas.Bool.{leb-true, le-leb, ltb-true, ltb-false, cond_both}
 use Rattle.values.specs.declared.nbbo.Nbbo.{Nbbo}
-use Rattle.values.specs.declared.refusal.Refusal.{Refusal}
 use Rattle.values.specs.declared.side.Side.{Side}
 use Rattle.values.specs.declared.side.Side.TheVariants.{Buy, Sell}
 use Rattle.values.specs.Sides.{no_more_aggressive, ahead, onward}
@@ -14,25 +13,10 @@ use Rattle.collars.specs.Pricings.{marketable, spread, collared, pricing_by, pri
 use Rattle.book.specs.declared.row.Row.{Row}
 use Rattle.book.specs.Lists.{every}
 use Rattle.book.specs.Rows.{stands_at}
-use Rattle.trading.specs.declared.ticket.Ticket.{Ticket}
-use Rattle.trading.specs.Doing.{rivals, displays_in_reach}
-use Rattle.trading.proofs.Sides.{decide}
+use Rattle.trading.specs.Doing.{is_quote_of}
 use Rattle.trading.proofs.Each.{every_from}
-use Rattle.market.specs.Tests.{first, crossed}
-use Rattle.market.specs.Orderly.{orderly}
+use Rattle.market.specs.Tests.{crossed}
 use Rattle.market.specs.Calls.{priced_at, priced}
-
--- a call that passes its tests met none of them
-abbrev pub NoneMet : List (Bool × Refusal) → Type 0
-NoneMet [] = Unit {0}
-NoneMet (t ∷ ts) = (t.0 ≡ false) × NoneMet ts
-
-pub none_met : (ts : List (Bool × Refusal)) → first ts ≡ None → NoneMet ts
-none_met [] e = tt
-none_met (t ∷ ts) e = decide t.0 (λ z. let y : ◌≡◌ {A = ℕ} 0 1 = cc in absurd (omega arith)) (λ z. (z, none_met ts (sym (off t.0 z) ∙ e)))
-  where
-    off : (b : Bool) → b ≡ false → cond b (Some t.1) (first ts) ≡ first ts
-    off b z = rw z
 
 -- ---- the display price of what makes no trade is within the reach
 
@@ -48,14 +32,14 @@ narrow_in : (s : Side) (x y c limit : ℕ) → no_more_aggressive s x y ≡ true
 narrow_in Buy x y c limit h n = let k = leb-true x y h in let l = leb-true y limit n in le-leb x (min (y + c) limit) (omega arith)
 narrow_in Sell x y c limit h n = let k = leb-true y x h in let l = leb-true limit y n in le-leb (max (y - c) limit) x (omega arith)
 
-uncrossed : (b : Nbbo) (s : Side) (x y : ℕ) → orderly b ≡ true → own s b ≡ Some x → contra s b ≡ Some y → no_more_aggressive s x y ≡ true
-uncrossed b Buy x y ok e g = let c : crossed (Some x) (Some y) ≡ false = subst (λ (o : Option ℕ). crossed o (Some y) ≡ false) e (subst (λ (o : Option ℕ). crossed b.bid o ≡ false) g (not-true (crossed b.bid b.offer) ok)) in le-leb x y (ltb-false y x c)
-uncrossed b Sell x y ok e g = let c : crossed (Some y) (Some x) ≡ false = subst (λ (o : Option ℕ). crossed o (Some x) ≡ false) g (subst (λ (o : Option ℕ). crossed b.bid o ≡ false) e (not-true (crossed b.bid b.offer) ok)) in le-leb y x (ltb-false x y c)
+uncrossed : (b : Nbbo) (s : Side) (x y : ℕ) → crossed b.bid b.offer ≡ false → own s b ≡ Some x → contra s b ≡ Some y → no_more_aggressive s x y ≡ true
+uncrossed b Buy x y ok e g = let c : crossed (Some x) (Some y) ≡ false = subst (λ (o : Option ℕ). crossed o (Some y) ≡ false) e (subst (λ (o : Option ℕ). crossed b.bid o ≡ false) g ok) in le-leb x y (ltb-false y x c)
+uncrossed b Sell x y ok e g = let c : crossed (Some y) (Some x) ≡ false = subst (λ (o : Option ℕ). crossed o (Some x) ≡ false) g (subst (λ (o : Option ℕ). crossed b.bid o ≡ false) e ok) in le-leb y x (ltb-false x y c)
 
 abbrev InReach : Side → Pricing → Type 0
 InReach s p = no_more_aggressive s (display_of p None) (reach_of p) ≡ true
 
-pricing_in : (s : Side) (limit : ℕ) (b : Nbbo) (c : ℕ) → orderly b ≡ true → InReach s (pricing s limit b c)
+pricing_in : (s : Side) (limit : ℕ) (b : Nbbo) (c : ℕ) → crossed b.bid b.offer ≡ false → InReach s (pricing s limit b c)
 pricing_in s limit b c ok = by (own s b) (contra s b) refl refl
   where
     by : (x y : Option ℕ) → own s b ≡ x → contra s b ≡ y → InReach s (pricing_by s limit c x y)
@@ -68,19 +52,16 @@ pricing_in s limit b c ok = by (own s b) (contra s b) refl refl
         (λ l. narrow_in s x y c limit (uncrossed b s x y ok e g) h))
         (λ h. in_itself s limit)
 
-pub priced_in : (w : Option ℕ) (s : Side) (limit : ℕ) (b : Nbbo) → orderly b ≡ true → InReach s (priced w s limit b)
+pub priced_in : (w : Option ℕ) (s : Side) (limit : ℕ) (b : Nbbo) → crossed b.bid b.offer ≡ false → InReach s (priced w s limit b)
 priced_in w s limit b ok = by b.bid
   where
     by : (o : Option ℕ) → InReach s (priced_at w s limit b o)
     by None = in_itself s limit
     by (Some bid) = pricing_in s limit b (width_by w bid) ok
 
-pub quote_in : (t : Ticket) (price : ℕ) → displays_in_reach t (AtLimit price) ≡ true
-quote_in t price = in_itself t.side price
-
 -- an order has no rivals
-pub order_rivals : (t : Ticket) (rs : List Row) → t.maker ≡ None → every (λ r. not (rivals t r)) rs ≡ true
-order_rivals t rs e = every_from (λ r. not (rivals t r)) rs (λ r h. rw e (by (stands_at t.series t.side r)))
+pub order_rivals : (s : ℕ) (side : Side) (rs : List Row) → every (λ r. not (stands_at s side r && is_quote_of None r.standing)) rs ≡ true
+order_rivals s side rs = every_from (λ r. not (stands_at s side r && is_quote_of None r.standing)) rs (λ r h. by (stands_at s side r))
   where
     by : (b : Bool) → not (b && false) ≡ true
     by true = refl

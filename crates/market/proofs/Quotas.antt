@@ -1,6 +1,7 @@
 -- How many rows a call withdraws: one by number, one on a side, at most 128 of one maker.
-use Rattle.std.proofs.Common.{◌≡◌, ℕ, zero, suc, ◌+◌, ◌*◌, ◌≤◌, Bool, true, false, cond, not, ◌&&◌, eqb, ltb, leb, ◌⊎◌, List, [], ◌∷◌, length, Some, None, Option, sym, refl, ap, ◌∙◌, subst, inl, inr, ⊎_elim, arith}
+use Rattle.std.proofs.Common.{◌≡◌, ℕ, zero, suc, ◌+◌, ◌*◌, ◌≤◌, Bool, true, false, cond, not, ◌&&◌, eqb, ltb, leb, ◌⊎◌, List, [], ◌∷◌, length, is_some, Some, None, Option, sym, refl, ap, ◌∙◌, subst, inl, inr, ⊎_elim, arith}
 use Rattle.std.proofs.lemmas.Bool.{le-leb, lt-leb, ltb-true, lt-ltb, eqb-true, eqb-false, eq-eqb, and_parts, and_from, not-true, cases_eq}
+use Rattle.std.proofs.lemmas.List.{length-take}
 use Rattle.values.specs.declared.side.Side.{Side}
 use Rattle.values.specs.declared.side.Side.TheVariants.{Buy, Sell}
 use Rattle.book.specs.declared.row.Row.{Row}
@@ -9,11 +10,15 @@ use Rattle.book.specs.declared.row.Standing.TheVariants.{Plain, Held, Quote}
 use Rattle.book.specs.Lists.{every, pairwise}
 use Rattle.book.specs.Rows.{same_side, stands_at, numbered, same_maker, same_quote, agrees, Sound, lowest, wanted_from}
 use Rattle.book.specs.Taking.{Has}
+use Rattle.trading.specs.declared.floor.Floor.{Floor}
 use Rattle.trading.specs.Doing.{count}
+use Rattle.trading.specs.Floors.{rows_on}
 use Rattle.trading.specs.Rests.{in_series}
 use Rattle.trading.proofs.Sides.{clash, decide, same_side_lem, same_self}
 use Rattle.trading.proofs.Each.{every_has, lowest_none, lowest_some}
+use Rattle.market.specs.declared.series.Series.{Series}
 use Rattle.market.specs.Tests.{is_mine, on_side}
+use Rattle.market.specs.Listings.{class_in, mine_in}
 
 -- ---- counting rows
 
@@ -117,11 +122,19 @@ unfolding below
 below_count k xs u zero = let z = count_zero (below k 0) xs (λ y i. decide (below k 0 y) (λ e. absurd (let l = ltb-true y.series 0 (and_parts (is_mine k y.standing) (ltb y.series 0) e).1 in omega arith)) (λ e. e)) in omega arith
 below_count k xs u (suc n) = omega (arith, count_split (below k (suc n)) (below k n) (on_side k n Buy) (on_side k n Sell) (below_step k n) xs, below_count k xs u n, side_one k n Buy xs u, side_one k n Sell xs u)
 
-pub mine_few : (k : ℕ) (p : Row → Bool) (xs : List Row) → Sound xs → every in_series xs ≡ true → ((r : Row) → p r ≡ true → is_mine k r.standing ≡ true) → count p xs ≤ 128
+pub class_few : (ss : List Series) (k c : ℕ) (xs : List Row) → Sound xs → every in_series xs ≡ true → count (mine_in ss k c) xs ≤ 128
 unfolding below
-mine_few k p xs sound listed mine = omega (arith, below_count k xs sound 64, count_le p (below k 64) xs (λ r h e. and_from (is_mine k r.standing) (ltb r.series 64) (mine r e) (every_has in_series xs listed r h)))
+class_few ss k c xs sound listed = omega (
+  arith,
+  below_count k xs sound 64,
+  count_le (mine_in ss k c) (below k 64) xs (λ r h e. and_from (is_mine k r.standing) (ltb r.series 64) (and_parts (is_mine k r.standing) (eqb (class_in ss r.series) c) e).0 (every_has in_series xs listed r h)),
+)
 
 -- ---- the book is full
+
+-- at most 256 rows rest
+pub few_rows : (f : Floor) → length (rows_on f) ≤ 256
+few_rows f = omega (arith, length-take f.book.resting.count f.book.resting.slots, f.book.resting.few)
 
 count_some : (p : Row → Bool) (xs : List Row) (r : Row) → Has r xs → p r ≡ true → 1 ≤ count p xs
 unfolding count
@@ -129,13 +142,8 @@ count_some p [] r h e = absurd h
 count_some p (x ∷ xs) r (inl s) e = let z : cond {A = ℕ} (p x) 1 0 ≡ 1 = rw (subst (λ (y : Row). p y ≡ true) s e) in omega arith
 count_some p (x ∷ xs) r (inr h) e = omega (arith, count_some p xs r h e)
 
--- by how many rows rest, and whether one would be replaced
-abbrev pub full_by : ℕ → Option Row → Bool
-full_by n None = leb 256 n
-full_by n (Some r) = false
-
 -- 256 rows rest besides the quote that would be replaced
-pub full_is : (p : Row → Bool) (xs : List Row) → length xs ≤ 256 → (o : Option Row) → lowest (wanted_from p 0) xs ≡ o → leb 256 (count (λ r. not (p r)) xs) ≡ full_by (length xs) o
+pub full_is : (p : Row → Bool) (xs : List Row) → length xs ≤ 256 → (o : Option Row) → lowest (wanted_from p 0) xs ≡ o → leb 256 (count (λ r. not (p r)) xs) ≡ (not (is_some o) && leb 256 (length xs))
 full_is p xs few None e =
     let none = count_zero p xs (λ r h. decide (p r) (λ t. absurd (clash _ (and_from (leb 0 r.number) (p r) (le-leb 0 r.number (omega arith)) t) (lowest_none (wanted_from p 0) xs e r h))) (λ t. t)) in
     let both = count_both p xs in

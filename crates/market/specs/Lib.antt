@@ -2,10 +2,10 @@ pub mod Series
 pub mod Squares
 pub mod States
 pub mod Tests
-pub mod Orderly
-pub mod Nationals
+pub mod Boards
 pub mod Shutouts
+pub mod Numbers
+pub mod Checks
 pub mod Listings
 pub mod Calls
-pub mod Widths
 pub mod Markets

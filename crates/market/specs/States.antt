@@ -1,5 +1,5 @@
 -- What a market is made of, and what its calls change.
-use Rattle.std.specs.Prelude.{ℕ, Bool, false, cond, ◌&&◌, List, [], None, Option, Result, ◌==◌, slice_index_or}
+use Rattle.std.specs.Prelude.{ℕ, Bool, false, cond, ◌&&◌, List, [], Some, None, Ok, Err, Option, Result, ◌==◌, slice_index_or}
 use Rattle.values.specs.declared.nbbo.Nbbo.{Nbbo}
 use Rattle.values.specs.declared.order.Kind.TheVariants.{Call}
 use Rattle.values.specs.declared.reference.Reference.{Reference}
@@ -60,9 +60,19 @@ pub record Room : Type 0 where
   pub trades : ℕ
   pub withdrawals : ℕ
 
--- the number given, or 0 where none is; or why the call is refused
+-- taken, with the number given, if one is; or why the call is refused
 abbrev pub Answer : Type 0
-Answer = Result ℕ Refusal
+Answer = Result (Option ℕ) Refusal
+
+-- the answer of a call that gives no number
+abbrev pub without_number : Result Unit Refusal → Answer
+without_number (Ok done) = Ok None
+without_number (Err e) = Err e
+
+-- the answer of a call that gives one
+abbrev pub with_number : Result ℕ Refusal → Answer
+with_number (Ok n) = Ok (Some n)
+with_number (Err e) = Err e
 
 -- what a call comes to: its answer, the next state, and its journal, the newest event first
 pub record Outcome : Type 0 where

@@ -1,5 +1,8 @@
 -- The tests of the calls, in the order in which they are made.
 use Rattle.std.specs.Prelude.{ℕ, ◌+◌, Bool, true, false, cond, not, ◌&&◌, ◌||◌, List, [], ◌∷◌, length, Some, None, Option, ◌==◌, nat_le, nat_lt}
+use Rattle.values.specs.declared.call.Order.{Order}
+use Rattle.values.specs.declared.call.Quote.{Quote}
+use Rattle.values.specs.declared.call.Update.{Update}
 use Rattle.values.specs.declared.nbbo.Nbbo.{Nbbo}
 use Rattle.values.specs.declared.order.OrderPrice.{OrderPrice}
 use Rattle.values.specs.declared.order.OrderPrice.TheVariants.{Market, Limit}
@@ -12,7 +15,7 @@ use Rattle.values.specs.declared.refusal.Refusal.TheVariants.{Rows, Name, Price,
 use Rattle.values.specs.declared.side.Side.{Side}
 use Rattle.book.specs.declared.row.Row.{Row}
 use Rattle.book.specs.declared.row.Standing.{Standing}
-use Rattle.book.specs.declared.row.Standing.TheVariants.{Plain, Held, Quote}
+use Rattle.book.specs.declared.row.Standing.TheVariants as standing
 use Rattle.book.specs.Rows.{same_side, row_of}
 use Rattle.collars.specs.Updates.{lawful_width, official, different}
 use Rattle.trading.specs.Doing.{count}
@@ -83,9 +86,9 @@ one_sided b = is_absent b.bid || is_absent b.offer
 -- ---- a maker's quotes
 
 abbrev pub is_mine : ℕ → Standing → Bool
-is_mine k Plain = false
-is_mine k (Held c d) = false
-is_mine k (Quote i) = i == k
+is_mine k standing.Plain = false
+is_mine k (standing.Held c d) = false
+is_mine k (standing.Quote i) = i == k
 
 -- the maker k's quote on a side of the series s
 abbrev pub on_side : ℕ → ℕ → Side → Row → Bool
@@ -103,34 +106,34 @@ lacks (Some r) = false
 -- ---- the tests of each call
 
 module _ (m : Making) (st : State) where
-  abbrev pub tests_nbbo : ℕ → Option ℕ → Option ℕ → List (Bool × Refusal)
-  tests_nbbo s bid offer = (unnamed m s, Name) ∷ (bad_side bid || bad_side offer, Price) ∷ (crossed bid offer, Crossed) ∷ []
+  abbrev pub tests_nbbo : ℕ → Nbbo → List (Bool × Refusal)
+  tests_nbbo s b = (unnamed m s, Name) ∷ (bad_side b.bid || bad_side b.offer, Price) ∷ (crossed b.bid b.offer, Crossed) ∷ []
 
   abbrev pub tests_event : ℕ → Event → List (Bool × Refusal)
   tests_event c e = (unknown c, Name) ∷ (bad_event e, Price) ∷ (not m.live, Dead) ∷ []
 
   -- 256 rows rest; an immediate order needs no place
-  abbrev pub tests_order : Room → ℕ → OrderPrice → ℕ → Condition → List (Bool × Refusal)
-  tests_order room s price size condition =
+  abbrev pub tests_order : Room → Order → List (Bool × Refusal)
+  tests_order room o =
       (tight room, Rows)
-      ∷ (unnamed m s, Name)
-      ∷ (bad_limit price, Price)
-      ∷ (bad_size size, Size)
+      ∷ (unnamed m o.series, Name)
+      ∷ (bad_limit o.price, Price)
+      ∷ (bad_size o.size, Size)
       ∷ (nat_lt 999999 st.next, Spent)
-      ∷ (is_day condition && nat_le 256 (length st.rows), Full)
-      ∷ (is_market price && one_sided (st.nbbo s), NoMarket)
+      ∷ (is_day o.condition && nat_le 256 (length st.rows), Full)
+      ∷ (is_market o.price && one_sided (st.nbbo o.series), NoMarket)
       ∷ []
 
   -- 256 rows rest, not counting a quote that it would replace
-  abbrev pub tests_quote : Room → ℕ → ℕ → Side → ℕ → ℕ → List (Bool × Refusal)
-  tests_quote room k s side price size =
+  abbrev pub tests_quote : Room → Quote → List (Bool × Refusal)
+  tests_quote room q =
       (tight room, Rows)
-      ∷ (unnamed m s || unknown k, Name)
-      ∷ (bad_price price, Price)
-      ∷ (bad_size size, Size)
+      ∷ (unnamed m q.series || unknown q.maker, Name)
+      ∷ (bad_price q.price, Price)
+      ∷ (bad_size q.size, Size)
       ∷ (nat_lt 999999 st.next, Spent)
-      ∷ (nat_le 256 (count (λ r. not (on_side k s side r)) st.rows), Full)
-      ∷ (st.shut k (class_of m s), Shut)
+      ∷ (nat_le 256 (count (λ r. not (on_side q.maker q.series q.side r)) st.rows), Full)
+      ∷ (st.shut q.maker (class_of m q.series), Shut)
       ∷ []
 
   abbrev pub tests_enable : ℕ → ℕ → List (Bool × Refusal)
@@ -146,5 +149,5 @@ module _ (m : Making) (st : State) where
   abbrev pub tests_in_force : ℕ → List (Bool × Refusal)
   tests_in_force s = (unnamed m s, Name) ∷ []
 
-  abbrev pub tests_width : ℕ → Option ℕ → ℕ → ℕ → List (Bool × Refusal)
-  tests_width s w i j = (unnamed m s || (not (official i) || not (official j)), Name) ∷ (not (lawful_width w), Price) ∷ (not (different i j), Same) ∷ []
+  abbrev pub tests_width : Update → List (Bool × Refusal)
+  tests_width u = (unnamed m u.series || (not (official u.first) || not (official u.second)), Name) ∷ (not (lawful_width u.width), Price) ∷ (not (different u.first u.second), Same) ∷ []

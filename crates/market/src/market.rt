@@ -1,13 +1,12 @@
 // A market of any order screen, quote screen and price source.
-ghost use Rattle.std.specs.Prelude.{◌≡◌, ◌<◌, length};
+ghost use Rattle.std.specs.Prelude.{◌≡◌};
 ghost use Rattle.market.specs.States.{view_in};
-ghost use Rattle.market.specs.Listings.{listed};
-ghost use Rattle.market.specs.Markets.{making, state};
+ghost use Rattle.market.specs.Markets.{of_market};
 
+use crate::boards::Boards;
 use crate::listing::Listing;
-use crate::nbbos::Nbbos;
+use crate::number::SeriesNumber;
 use crate::shutouts::Shutouts;
-use crate::widths::AllSettings;
 use screens::screen::{QuoteScreen, Screen};
 use screens::view::View;
 use sources::PriceSource;
@@ -18,31 +17,31 @@ pub mod calls;
 pub mod making;
 pub mod quoting;
 
+// Its screens and price source, what it lists, what is in force, who is shut out, and the floor with the book.
+// No model of its own: what a clause says of a market is `making` and `state`, and the clauses of `new` name its parts.
 #[derive(Drop)]
 pub struct Market<O: Screen, Q: QuoteScreen, S: PriceSource> {
     orders: O,
     quotes: Q,
     source: S,
     listing: Listing,
-    nbbos: Nbbos,
-    settings: AllSettings,
+    boards: Boards,
     shutouts: Shutouts,
     floor: Floor,
 }
 
 impl<O: Screen, Q: QuoteScreen, S: PriceSource> Market<O, Q, S> {
     // What a screen is shown of a series.
-    fn view(&self, series: u32) -> View
-        requires { series < length (listed self.now.listing) }
-        ensures { result ≡ view_in (making O.Screen Q.Screen Q.extent S.PriceSource self.now) (state O.Screen Q.Screen Q.extent S.PriceSource self.now) series }
+    fn view(&self, series: SeriesNumber) -> View
+        ensures { result ≡ of_market O.Screen Q.Screen Q.extent S.PriceSource view_in self.now series.value }
     {
-        let class = self.listing.class_of(series as u8);
-        let (kind, strike) = self.listing.terms_of(series as u8);
+        let class = self.listing.class_of(series.get());
+        let (kind, strike) = self.listing.terms_of(series.get());
         View {
             kind,
             strike,
-            nbbo: self.nbbos.get(series as usize),
-            reference: self.source.reference(class as usize),
+            nbbo: self.boards.board(series).nbbo(),
+            reference: self.source.reference(usize::from(class.get())),
         }
     }
 }

@@ -3,7 +3,7 @@ ghost use Rattle.std.specs.Prelude.{◌≡◌, Option};
 ghost use Rattle.market.specs.Tests.{bad_price, bad_side, bad_limit, bad_size, bad_event, crossed, tight, is_day, is_market, one_sided};
 
 use values::nbbo::Nbbo;
-use values::order::{Condition, OrderPrice};
+use values::order::{Condition, HIGHEST_PRICE, LOWEST_PRICE, OrderPrice};
 use values::reference::Event;
 use values::side::Price;
 
@@ -11,18 +11,17 @@ use values::side::Price;
 pub fn bad_price(price: Price) -> bool
     ensures { result ≡ bad_price price }
 {
-    price < 1 || price > 10_000_000
+    price < LOWEST_PRICE || price > HIGHEST_PRICE
 }
 
+// A side of the national best bid and offer may be absent.
 pub fn bad_side(price: Option<Price>) -> bool
     ensures { result ≡ bad_side price }
 {
-    match price {
-        Some(price) => bad_price(price),
-        None => false,
-    }
+    price.is_some_and(bad_price)
 }
 
+// A market order has no price to be tested.
 pub fn bad_limit(price: OrderPrice) -> bool
     ensures { result ≡ bad_limit price }
 {
@@ -39,6 +38,7 @@ pub fn bad_size(size: u32) -> bool
     size < 1 || size > 999_999
 }
 
+// A halt or a resumption has none either.
 pub fn bad_event(event: Event) -> bool
     ensures { result ≡ bad_event event }
 {
@@ -49,33 +49,29 @@ pub fn bad_event(event: Event) -> bool
 }
 
 // A national best bid above the national best offer.
-pub fn is_crossed(bid: Option<Price>, offer: Option<Price>) -> bool
-    ensures { result ≡ crossed bid offer }
+pub fn is_crossed(nbbo: Nbbo) -> bool
+    ensures { result ≡ crossed nbbo.bid nbbo.offer }
 {
-    match (bid, offer) {
-        (Some(bid), Some(offer)) => bid > offer,
-        _ => false,
-    }
+    nbbo.bid
+        .zip(nbbo.offer)
+        .is_some_and(|(bid, offer)| bid > offer)
 }
 
+// Whether what is left of an order may rest.
 pub fn is_day(condition: Condition) -> bool
     ensures { result ≡ is_day condition }
 {
-    match condition {
-        Condition::Day => true,
-        Condition::Immediate => false,
-    }
+    condition == Condition::Day
 }
 
+// Whether an order takes the market's price.
 pub fn is_market(price: OrderPrice) -> bool
     ensures { result ≡ is_market price }
 {
-    match price {
-        OrderPrice::Market => true,
-        OrderPrice::Limit(_) => false,
-    }
+    matches!(price, OrderPrice::Market)
 }
 
+// Whether a side of the national best bid and offer is absent.
 pub fn is_one_sided(nbbo: Nbbo) -> bool
     ensures { result ≡ one_sided nbbo }
 {

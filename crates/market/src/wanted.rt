@@ -27,10 +27,7 @@ impl Wanted<Row> for Numbered {
 fn is_mine(maker: u8, standing: Standing) -> bool
     ensures { result ≡ is_mine maker standing }
 {
-    match standing {
-        Standing::Quote { maker: whose } => whose == maker,
-        Standing::Plain | Standing::Held { .. } => false,
-    }
+    matches!(standing, Standing::Quote { maker: whose } if whose == maker)
 }
 
 // A maker's quote on one side of a series.
@@ -45,12 +42,7 @@ impl Wanted<Row> for OnSide {
     ghost wants = { λ s r. on_side s.maker s.series s.side r };
 
     fn wants(&self, item: Row) -> bool {
-        is_mine(self.maker, item.standing)
-            && item.series == self.series
-            && match (item.side, self.side) {
-                (Side::Buy, Side::Buy) | (Side::Sell, Side::Sell) => true,
-                (Side::Buy, Side::Sell) | (Side::Sell, Side::Buy) => false,
-            }
+        is_mine(self.maker, item.standing) && item.series == self.series && item.side == self.side
     }
 }
 
@@ -66,6 +58,6 @@ impl<'a> Wanted<Row> for InClass<'a> {
     ghost wants = { λ s r. mine_in (listed s.listing.now) s.maker s.class r };
 
     fn wants(&self, item: Row) -> bool {
-        is_mine(self.maker, item.standing) && self.listing.class_of(item.series) == self.class
+        is_mine(self.maker, item.standing) && self.listing.class_of(item.series).get() == self.class
     }
 }

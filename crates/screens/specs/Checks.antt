@@ -10,16 +10,14 @@ use Rattle.values.specs.declared.side.Side.{Side}
 use Rattle.values.specs.declared.side.Side.TheVariants.{Buy, Sell}
 use Rattle.values.specs.Nbbos.{contra}
 use Rattle.screens.specs.declared.view.View.{View}
-use Rattle.screens.specs.declared.view.Verdict.{Verdict}
-use Rattle.screens.specs.declared.view.Verdict.TheVariants.{Pass}
 use Rattle.screens.specs.declared.view.Extent.{Extent}
 use Rattle.screens.specs.declared.view.Extent.TheVariants.{OneSide, WholeClass}
 use Rattle.screens.specs.Screens.{Meaning}
-use Rattle.screens.specs.Views.{refused_if}
+use Rattle.screens.specs.Views.{Verdict, passes, refused_if}
 
 -- a check that needs a price passes where it is absent
 abbrev pub where_there : Option ℕ → (ℕ → Verdict) → Verdict
-where_there None check = Pass
+where_there None check = passes
 where_there (Some c) check = check c
 
 -- ---- the Limit Order Filter
@@ -89,7 +87,7 @@ benchmark Call strike ref = stock_price ref
 
 abbrev pub benchmark_by : Side → Option ℕ → ℕ → Verdict
 benchmark_by Buy most p = where_there most (λ w. refused_if Benchmark (nat_le w p))
-benchmark_by Sell most p = Pass
+benchmark_by Sell most p = passes
 
 abbrev pub quote_benchmark_check : Meaning
 quote_benchmark_check v s p = benchmark_by s (benchmark v.kind v.strike v.reference) p

@@ -3,8 +3,7 @@ use Rattle.std.specs.Prelude.{◌≡◌, ℕ, true}
 use Rattle.values.specs.declared.side.Side.{Side}
 use Rattle.values.specs.Sides.{NoMoreAggressive}
 use Rattle.screens.specs.declared.view.View.{View}
-use Rattle.screens.specs.declared.view.Verdict.{Verdict}
-use Rattle.screens.specs.Views.{refuses}
+use Rattle.screens.specs.Views.{Verdict, refuses}
 
 -- what a screen answers for every view, side and price
 abbrev pub Meaning : Type 0

@@ -5,7 +5,7 @@ ghost use Rattle.screens.specs.Views.{refused_if};
 ghost use Rattle.std.proofs.Common.{rules};
 
 use crate::screen::{QuoteScreen, Screen};
-use crate::view::{Extent, Ruling, Verdict, View};
+use crate::view::{Extent, Ruling, Verdict, View, reaching};
 use values::order::Kind;
 use values::reference::Reference;
 use values::refusal::Cause;
@@ -30,11 +30,7 @@ fn at_most(price: Price, percent: u32, of: Price) -> bool
 fn refused_if(cause: Cause, test: bool) -> Verdict
     ensures { result ≡ refused_if cause test }
 {
-    if test {
-        Verdict::Refused(cause)
-    } else {
-        Verdict::Pass
-    }
+    if test { Err(cause) } else { Ok(()) }
 }
 
 // How many percent through the contra side a limit order may not go.
@@ -55,7 +51,7 @@ impl Screen for LimitOrderFilter {
 
     fn ask(&self, view: &View, side: Side, price: Price) -> Verdict {
         let Some(contra) = view.nbbo.contra(side) else {
-            return Verdict::Pass;
+            return Ok(());
         };
         let margin = filter_margin(contra);
         match side {
@@ -106,7 +102,7 @@ impl Screen for OrderPriceCheck {
                 let value = intrinsic_value(view.kind, view.strike, sale);
                 refused_if(Cause::Intrinsic, value > 0 && at_most(price, 50, value))
             }
-            _ => Verdict::Pass,
+            _ => Ok(()),
         }
     }
 }
@@ -131,16 +127,17 @@ impl Screen for QuoteNbboCheck {
                 Cause::Through,
                 bid > 100 && at_most(price, 50, bid),
             ),
-            (_, None) => Verdict::Pass,
+            (_, None) => Ok(()),
         }
     }
 }
 
+// Both checks judge by their answer and an extent of their own; a type for that around a check is no plainer than the line.
 impl QuoteScreen for QuoteNbboCheck {
     ghost extent = { λ _. one_side };
 
     fn judge(&self, view: &View, side: Side, price: Price) -> Ruling {
-        self.ask(view, side, price).reaching(Extent::OneSide)
+        reaching(self.ask(view, side, price), Extent::OneSide)
     }
 }
 
@@ -155,7 +152,7 @@ impl Screen for QuoteBenchmarkCheck {
 
     fn ask(&self, view: &View, side: Side, price: Price) -> Verdict {
         match (side, view.kind, view.reference) {
-            (Side::Sell, _, _) | (Side::Buy, Kind::Call, Reference::Absent) => Verdict::Pass,
+            (Side::Sell, _, _) | (Side::Buy, Kind::Call, Reference::Absent) => Ok(()),
             (Side::Buy, Kind::Put, _) => refused_if(Cause::Benchmark, price >= view.strike),
             (
                 Side::Buy,
@@ -170,6 +167,6 @@ impl QuoteScreen for QuoteBenchmarkCheck {
     ghost extent = { λ _. whole_class };
 
     fn judge(&self, view: &View, side: Side, price: Price) -> Ruling {
-        self.ask(view, side, price).reaching(Extent::WholeClass)
+        reaching(self.ask(view, side, price), Extent::WholeClass)
     }
 }

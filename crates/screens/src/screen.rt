@@ -2,15 +2,15 @@
 ghost use Rattle.std.specs.Prelude.{◌≡◌, ℕ};
 ghost use Rattle.values.specs.declared.side.Side.{Side};
 ghost use Rattle.screens.specs.declared.view.View.{View};
-ghost use Rattle.screens.specs.declared.view.Verdict.{Verdict};
 ghost use Rattle.screens.specs.declared.view.Extent.{Extent};
 ghost use Rattle.screens.specs.Screens.{Lawful};
-ghost use Rattle.screens.specs.Views.{ruling_by};
+ghost use Rattle.screens.specs.Views.{Verdict, ruling_by};
 
 use crate::view::{Ruling, Verdict, View};
 use values::side::{Price, Side};
 
-// A screen passes or refuses a price on one side of a series, by what it is shown of the series.
+// A screen passes or refuses a price on one side of a series, by what it is shown of the series. What is asked stands as three
+// arguments, as its meaning has them; only lists of questions, as in the program `worked`, need a record.
 pub trait Screen {
     // its answer for every view, side and price
     ghost meaning: { Self → View → Side → ℕ → Verdict };

@@ -17,35 +17,29 @@ pub struct View {
     pub reference: Reference,
 }
 
-// A screen's answer.
-#[derive(Clone, Copy)]
-pub enum Verdict {
-    Pass,
-    Refused(Cause),
-}
+// A screen's answer: it passes the price, or refuses it for a cause.
+pub type Verdict = Result<(), Cause>;
 
 // How far the refusal of a quote reaches: the maker's quote on that side of the series, or all its quotes in the class.
-#[derive(Clone, Copy)]
+#[derive(Clone, Copy, Debug, PartialEq, Eq)]
 pub enum Extent {
     OneSide,
     WholeClass,
 }
 
-// A quote screen's answer.
-#[derive(Clone, Copy)]
-pub enum Ruling {
-    Pass,
-    Refused(Cause, Extent),
+// Why a quote screen refuses a price, and how far that reaches.
+#[derive(Clone, Copy, Debug, PartialEq, Eq)]
+pub struct QuoteRefusal {
+    pub cause: Cause,
+    pub extent: Extent,
 }
 
-impl Verdict {
-    // The answer of a quote screen whose refusals reach so far.
-    pub fn reaching(self, extent: Extent) -> Ruling
-        ensures { result ≡ ruling_by self extent }
-    {
-        match self {
-            Verdict::Pass => Ruling::Pass,
-            Verdict::Refused(cause) => Ruling::Refused(cause, extent),
-        }
-    }
+// A quote screen's answer.
+pub type Ruling = Result<(), QuoteRefusal>;
+
+// The answer of a quote screen whose refusals reach so far.
+pub fn reaching(verdict: Verdict, extent: Extent) -> Ruling
+    ensures { result ≡ ruling_by verdict extent }
+{
+    verdict.map_err(|cause| QuoteRefusal { cause, extent })
 }

@@ -1,2 +1,2 @@
-pub mod Newlines
 pub mod Cutting
+pub mod Fed

@@ -1,6 +1,5 @@
 -- Cutting input into lines: a line ends with its newline (10), and one of more than 80 bytes is too long.
-use Rattle.std.specs.Prelude.{◌≡◌, ℕ, ◌+◌, ◌<◌, ◌≤◌, Bool, false, cond, ◌||◌, List, [], ◌∷◌, ◌++◌, length, take, drop, Some, None, Option, ◌==◌, nat_le, nat_lt}
-use Rattle.std.specs.Option.{option_map}
+use Rattle.std.specs.Prelude.{◌≡◌, ℕ, ◌+◌, ◌<◌, ◌≤◌, Bool, true, false, ◌||◌, List, [], ◌∷◌, ◌++◌, length, position, take, drop, Some, None, Option, ◌==◌, nat_le, nat_lt, if◌then◌else◌}
 use Rattle.wire.specs.declared.split.Piece.{Piece}
 use Rattle.wire.specs.declared.split.Piece.TheVariants.{Whole, Long, Unended}
 
@@ -11,7 +10,7 @@ Item = Option (List ℕ)
 -- the lines of an input
 -- of a line that its newline ends
 abbrev pub ended : List ℕ → Item
-ended l = cond (nat_le (length l) 80) (Some l) None
+ended l = if nat_le (length l) 80 then Some l else None
 
 -- at the end of the input: a line without a newline is broken, and nothing after a newline is no line
 abbrev pub unended : List ℕ → List Item
@@ -21,26 +20,31 @@ unended (b ∷ l) = None ∷ []
 -- the lines of an input, where `begun` has come of the first already
 abbrev pub lines_from : List ℕ → List ℕ → List Item
 lines_from begun [] = unended begun
-lines_from begun (b ∷ s) = cond (b == 10) (ended (begun ++ (b ∷ [])) ∷ lines_from [] s) (lines_from (begun ++ (b ∷ [])) s)
+lines_from begun (b ∷ s) = if b == 10 then ended (begun ++ (b ∷ [])) ∷ lines_from [] s else lines_from (begun ++ (b ∷ [])) s
 
 abbrev pub lines : List ℕ → List Item
 lines input = lines_from [] input
 
+-- the lines still to come, where s follows; of one that is too long already, its newline and what comes after
+abbrev pub pending : Bool → List ℕ → List Item
+pending false s = lines s
+pending true [] = None ∷ []
+pending true (b ∷ s) = if b == 10 then None ∷ lines s else pending true s
+
 -- one step over a block of input; `passing` says that a line has begun that is too long already
 -- where the first newline stands
 abbrev pub newline_at : List ℕ → Option ℕ
-newline_at [] = None
-newline_at (b ∷ s) = cond (b == 10) (Some 0) (option_map (λ k. k + 1) (newline_at s))
+newline_at s = position (λ b. b == 10) s
 
 -- the items that the step answers
 abbrev pub items : Bool → List ℕ → Option ℕ → List Item
-items passing s (Some at) = cond passing None (ended (take (at + 1) s)) ∷ []
+items passing s (Some at) = (if passing then None else ended (take (at + 1) s)) ∷ []
 items passing s None = []
 
 -- the bytes that are left, to stand before the input that comes next: a line that is too long is not kept
 abbrev pub left : Bool → List ℕ → Option ℕ → List ℕ
 left passing s (Some at) = drop (at + 1) s
-left passing s None = cond (passing || nat_le 80 (length s)) [] s
+left passing s None = if passing || nat_le 80 (length s) then [] else s
 
 -- whether a line that is too long goes on
 abbrev pub goes_on : Bool → List ℕ → Option ℕ → Bool
@@ -61,7 +65,7 @@ Onward Unended rest s = (length rest ≤ length s) × (length rest < 80)
 
 -- the end of the input, where s is left
 abbrev pub at_end : Bool → List ℕ → List Item
-at_end passing s = cond (passing || nat_lt 0 (length s)) (None ∷ []) []
+at_end passing s = if passing || nat_lt 0 (length s) then None ∷ [] else []
 
 -- a run of a splitter: input comes a block at a time, and steps are made in between
 pub data Move : Type 0 where
@@ -92,4 +96,4 @@ AnswersTheLines passing = (moves : List Move) → Spent moves passing [] → ans
 
 -- how many bytes are kept of the last `count` before `end`
 abbrev pub kept : List ℕ → ℕ → ℕ → ℕ
-kept buffer end count = cond (nat_le end (length buffer)) (cond (nat_le count end) count 0) 0
+kept buffer end count = if nat_le end (length buffer) then (if nat_le count end then count else 0) else 0

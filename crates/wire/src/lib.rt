@@ -3,4 +3,5 @@
 #![tactic(auto)]
 
 pub mod again;
+pub mod feed;
 pub mod split;

@@ -2,6 +2,7 @@
 ghost use Rattle.std.specs.Prelude.{◌≡◌, ◌-◌, ◌<◌, false, ◌||◌, ◌++◌, length, take, drop, IfSome, nat_lt};
 ghost use Rattle.wire.specs.Splitting.{newline_at, items, left, goes_on, answers, Onward, kept, AnswersTheLines};
 
+use std::mem;
 use wire_format::line::LONGEST;
 
 // What comes first in a block.
@@ -18,7 +19,7 @@ pub enum Piece<'a> {
 // Cuts input into lines. The bytes that it leaves stand before the input that comes next.
 #[derive(Drop)]
 pub struct Splitter {
-    // A line that is too long has begun, and its bytes are passed over up to its newline.
+    // A line that is too long has begun, and its bytes are passed over up to its newline. A plain flag: no value goes with it.
     pub passing: bool,
 }
 
@@ -27,12 +28,7 @@ fn find_newline(block: &[u8]) -> Option<usize>
     ensures first { result ≡ newline_at block.now }
     ensures within { IfSome result (λ at. at < length block.now) }
 {
-    for (i, byte) in block.iter().enumerate() {
-        if *byte == b'\n' {
-            return Some(i);
-        }
-    }
-    None
+    block.iter().position(|byte| *byte == b'\n')
 }
 
 // The law of splitters, for one that passes over no line: however its input comes, it answers the lines of the input.
@@ -60,16 +56,13 @@ impl Splitter {
         match find_newline(block) {
             Some(at) => {
                 let (line, rest) = block.split_at(at + 1);
-                let long = self.passing || line.len() > LONGEST;
-                self.passing = false;
-                (
-                    if long {
-                        Piece::Long
-                    } else {
-                        Piece::Whole(line)
-                    },
-                    rest,
-                )
+                let long = mem::take(&mut self.passing) || line.len() > LONGEST;
+                let piece = if long {
+                    Piece::Long
+                } else {
+                    Piece::Whole(line)
+                };
+                (piece, rest)
             }
             None => {
                 self.passing = self.passing || block.len() >= LONGEST;
@@ -82,12 +75,12 @@ impl Splitter {
     pub fn unended(&self, rest: &[u8]) -> bool
         ensures { result ≡ self.now.passing || nat_lt 0 (length rest.now) }
     {
-        self.passing || rest.len() > 0
+        self.passing || !rest.is_empty()
     }
 }
 
-// Moves the last `count` bytes before `end` to the front of the buffer, so that the input that comes next is read after them, and says
-// how many were moved: none where there are not so many.
+// Moves the last `count` bytes before `end` to the front of the buffer, so that the input that comes next is read after them, and
+// says how many were moved: none where there are not so many.
 pub fn keep_last(buffer: &mut [u8], end: usize, count: usize) -> usize
     ensures count { result ≡ kept buffer.old end count }
     ensures bytes { buffer.new ≡ take result (drop (end - result) buffer.old) ++ drop result buffer.old }
@@ -96,8 +89,6 @@ pub fn keep_last(buffer: &mut [u8], end: usize, count: usize) -> usize
         return 0;
     }
     let start = end - count;
-    for i in 0..count {
-        buffer[i] = buffer[start + i];
-    }
+    buffer.copy_within(start..end, 0);
     count
 }

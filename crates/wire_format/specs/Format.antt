@@ -1,10 +1,12 @@
 -- The format: the bytes of each line.
-use Rattle.std.specs.Prelude.{ℕ, ◌^◌, cond, List, [], ◌∷◌, ◌++◌, Some, None, codes, decimal, Option, nat_lt}
+use Rattle.std.specs.Prelude.{◌≡◌, ℕ, ◌^◌, List, [], ◌∷◌, ◌++◌, Some, None, codes, decimal, Option, nat_lt, if◌then◌else◌}
 use Prim.Native.String.{String}
+use Rattle.values.specs.declared.call.Call.{Call}
+use Rattle.values.specs.declared.call.Call.TheVariants as call
 use Rattle.values.specs.declared.order.Condition.{Condition}
 use Rattle.values.specs.declared.order.Condition.TheVariants.{Day, Immediate}
 use Rattle.values.specs.declared.order.Kind.{Kind}
-use Rattle.values.specs.declared.order.Kind.TheVariants.{Call, Put}
+use Rattle.values.specs.declared.order.Kind.TheVariants as kind
 use Rattle.values.specs.declared.order.OrderPrice.{OrderPrice}
 use Rattle.values.specs.declared.order.OrderPrice.TheVariants.{Market, Limit}
 use Rattle.values.specs.declared.reference.Event.{Event}
@@ -35,9 +37,13 @@ newline field = glued 10 field (Some [])
 abbrev pub text : String → Text
 text word = Some (codes word)
 
+-- a text of one letter
+abbrev pub IsLetter : Text → Type 0
+IsLetter t = (letter : ℕ) × (t ≡ Some (letter ∷ []))
+
 -- decimal, 1 to 9 digits, no leading zero but for 0 itself
 abbrev pub count : ℕ → Text
-count n = cond (nat_lt n (10 ^ 9)) (Some (decimal n)) None
+count n = if nat_lt n (10 ^ 9) then Some (decimal n) else None
 
 -- a price, or a dash where it is absent
 abbrev pub optional : Option ℕ → Text
@@ -49,8 +55,8 @@ side_text Buy = text "B"
 side_text Sell = text "S"
 
 abbrev pub kind_text : Kind → Text
-kind_text Call = text "C"
-kind_text Put = text "P"
+kind_text kind.Call = text "C"
+kind_text kind.Put = text "P"
 
 abbrev pub condition_text : Condition → Text
 condition_text Day = text "D"
@@ -68,14 +74,18 @@ event_text (Last p) = tab (text "L") (newline (count p))
 event_text Halt = newline (text "H")
 event_text Resume = newline (text "R")
 
--- the bytes of a line; nothing where one of its counts has more than nine digits
+-- the bytes of a call; nothing where one of its counts has more than nine digits
+abbrev pub call_text : Call → Text
+call_text (call.Nbbo series nbbo) = tab (text "N") (tab (count series) (tab (optional nbbo.bid) (newline (optional nbbo.offer))))
+call_text (call.Event class event) = tab (text "U") (tab (count class) (event_text event))
+call_text (call.Order o) = tab (text "O") (tab (count o.series) (tab (side_text o.side) (tab (price_text o.price) (tab (count o.size) (newline (condition_text o.condition))))))
+call_text (call.Quote q) = tab (text "Q") (tab (count q.maker) (tab (count q.series) (tab (side_text q.side) (tab (count q.price) (newline (count q.size))))))
+call_text (call.Enable maker class) = tab (text "E") (tab (count maker) (newline (count class)))
+call_text (call.Withdraw number) = tab (text "X") (newline (count number))
+call_text (call.Clock ms) = tab (text "T") (newline (count ms))
+call_text (call.Width u) = tab (text "W") (tab (count u.series) (tab (optional u.width) (tab (count u.first) (newline (count u.second)))))
+
+-- the bytes of a line
 abbrev pub written : Line → Text
-written (line.Series class kind strike) = tab (text "S") (tab (count class) (tab (kind_text kind) (newline (count strike))))
-written (line.Nbbo series bid offer) = tab (text "N") (tab (count series) (tab (optional bid) (newline (optional offer))))
-written (line.Event class event) = tab (text "U") (tab (count class) (event_text event))
-written (line.Order series side price size condition) = tab (text "O") (tab (count series) (tab (side_text side) (tab (price_text price) (tab (count size) (newline (condition_text condition))))))
-written (line.Quote maker series side price size) = tab (text "Q") (tab (count maker) (tab (count series) (tab (side_text side) (tab (count price) (newline (count size))))))
-written (line.Enable maker class) = tab (text "E") (tab (count maker) (newline (count class)))
-written (line.Withdraw number) = tab (text "X") (newline (count number))
-written (line.Clock ms) = tab (text "T") (newline (count ms))
-written (line.Width series width first second) = tab (text "W") (tab (count series) (tab (optional width) (tab (count first) (newline (count second)))))
+written (line.Series t) = tab (text "S") (tab (count t.class) (tab (kind_text t.kind) (newline (count t.strike))))
+written (line.Call c) = call_text c

@@ -1,5 +1,5 @@
 -- Counts: what the digits at the front of a text write.
-use Rattle.std.proofs.Common.{◌≡◌, ℕ, suc, ◌+◌, ◌-◌, ◌*◌, ◌^◌, ◌<◌, ◌≤◌, ltb, List, ◌∷◌, ◌++◌, length, get_or, take, drop, Some, None, decimal, sym, refl, ap, ◌∙◌, ⊎_elim, add-one, arith, length-append, drop-cons}
+use Rattle.std.proofs.Common.{◌≡◌, ℕ, suc, ◌+◌, ◌-◌, ◌*◌, ◌^◌, ◌<◌, ◌≤◌, ltb, List, ◌∷◌, ◌++◌, length, get_or, take, drop, Some, None, decimal, sym, refl, ap, ◌∙◌, subst, ⊎_elim, add-one, arith, length-append, drop-cons}
 use Rattle.std.specs.Str.Parse.{digits_value, AllDigits}
 use Rattle.std.specs.Int.{IsInRange}
 use Rattle.std.specs.Char.{digit_value}
@@ -8,6 +8,7 @@ use Rattle.std.proofs.lemmas.Str.Parse.{IsNumeralModel, numerals_by_value, tells
 use Rattle.std.proofs.lemmas.Fmt.{decimal-digits_value, decimal_is_IsNumeral, length-decimal-le, decimal_nonempty, first_decimal, decimal_digit, decimal_injective}
 use Rattle.std.proofs.lemmas.Str.{digit_value_digit}
 use Rattle.std.proofs.lemmas.List.{length-take-le, get_or_at, get_or_append_left, get_or-take, take_at, drop_at, take-append-drop}
+use Rattle.std.proofs.lemmas.Slice.{between_to_end}
 use Rattle.std.proofs.lemmas.Bool.{cases_lt, cases_order, cases_Bool, ltb-true, lt-ltb, cond-true, cond-false}
 use Rattle.wire_format.specs.Format.{Text, glued, count}
 use Rattle.wire_read.specs.Fields.{Front, Number, Run, Count}
@@ -20,13 +21,13 @@ digit_small c h = omega (arith, digit_value_digit c h)
 
 -- fewer than nine digits leave room for one more
 pub room : (s : List ℕ) (i n : ℕ) → i ≤ length s → Number s n i → i < 9 → n < 10 ^ 8
-room s i n h d lt = rw d.1 (digits_value_short own (take i s) 8 d.0 (omega (arith, length-take-le i s h)))
+room s i n h d lt = rw d.value (digits_value_short own (take i s) 8 d.digits (omega (arith, length-take-le i s h)))
 
-pub one_more : (s : List ℕ) (i n : ℕ) → i < length s → Number s n i → IsInRange 48 57 (get_or s i 0) → Number s (n * 10 + (get_or s i 0 - 48)) (i + 1)
-one_more s i n lt d is = (
-  digits_more 10 s i lt d.0 (digit_small _ is),
-  omega (arith, digits_value_more 10 s i lt, digit_value_digit _ is, d.1),
-)
+pub one_more : (s : List ℕ) (i n d : ℕ) → i < length s → Number s n i → IsInRange 48 57 (get_or s i 0) → d ≡ get_or s i 0 - 48 → Number s (n * 10 + d) (i + 1)
+one_more s i n d lt h is e = record {
+  digits = digits_more 10 s i lt h.digits (digit_small _ is);
+  value = omega (arith, digits_value_more 10 s i lt, digit_value_digit _ is, h.value);
+}
 
 -- what is written of a count that is written
 pub count_some : (b : ℕ) → b < 10 ^ 9 → count b ≡ Some (decimal b)
@@ -36,7 +37,7 @@ pub glued_count : (end b : ℕ) (t s : List ℕ) → glued end (count b) (Some t
 glued_count end b t s e =
     ⊎_elim
     (λ yes'. (ltb-true b _ yes', let p : Some (decimal b ++ (end ∷ t)) ≡ Some s = sym (ap (λ x. glued end x (Some t)) (count_some b (ltb-true b _ yes'))) ∙ e in cc))
-    (λ no'. let p : ◌≡◌ {A = Text} None (Some s) = sym (ap (λ x. glued end x (Some t)) (cond-false (ltb b (10 ^ 9)) (Some (decimal b)) None no')) ∙ e in let z : ◌≡◌ {A = ℕ} 0 1 = cc in absurd (omega arith))
+    (λ no'. let p : ◌≡◌ {A = Text} None (Some s) = sym (ap (λ x. glued end x (Some t)) (cond-false (ltb b (10 ^ 9)) (Some (decimal b)) None no')) ∙ e in cc)
     (cases_Bool (ltb b (10 ^ 9)))
 
 module _ (s : List ℕ) (end n i : ℕ) (low : end < 48) (run : Run s n i) where
@@ -55,7 +56,7 @@ module _ (s : List ℕ) (end n i : ℕ) (low : end < 48) (run : Run s n i) where
       let dig = digit_at (decimal b) i ds less in
       absurd (run.stops (omega arith) (omega (arith, long)) (omega (arith, at, dig.0), omega (arith, at, dig.1))))
       (λ more.
-      let dig = digit_at (take i s) (length (decimal b)) run.number.0 (omega (arith, length-take-le i s run.within)) in
+      let dig = digit_at (take i s) (length (decimal b)) run.number.digits (omega (arith, length-take-le i s run.within)) in
       absurd (omega (arith, dig.0, get_or-take i s (length (decimal b)) 0 more, seam))))
       (cases_order i (length (decimal b)))
 
@@ -78,14 +79,14 @@ module _ (s : List ℕ) (end n i : ℕ) (low : end < 48) (run : Run s n i) where
             (cases_lt 0 b);
       }
 
-  pub front : Count s i end → Front count end s n (drop (i + 1) s)
-  front p =
+  onward : Count s i end → Front count end s n (drop (i + 1) s)
+  onward p =
       let ds = take i s in
       let len = length-take-le i s run.within in
-      let small : n < 10 ^ 9 = rw run.number.1 (digits_value_short own ds 9 run.number.0 (omega arith)) in
-      let big : digits_value 10 ds < 2 ^ 64 = omega (arith, run.number.1) in
+      let small : n < 10 ^ 9 = rw run.number.value (digits_value_short own ds 9 run.number.digits (omega arith)) in
+      let big : digits_value 10 ds < 2 ^ 64 = omega (arith, run.number.value) in
       let lead : get_or ds 0 0 ≡ 48 → length ds ≡ 1 = λ z. len ∙ p.lead (sym (get_or-take i s 0 0 p.some) ∙ z) in
-      let spelled : decimal n ≡ ds = ap decimal run.number.1 ∙ decimal-digits_value own ds run.number.0 (omega (arith, p.some)) lead big in
+      let spelled : decimal n ≡ ds = ap decimal run.number.value ∙ decimal-digits_value own ds run.number.digits (omega (arith, p.some)) lead big in
       let rest : drop i s ≡ end ∷ drop (i + 1) s = rw add-one (drop-cons s i 0 p.more ∙ ap (λ x. x ∷ drop (suc i) s) p.ends) in
       let whole : decimal n ++ (end ∷ drop (i + 1) s) ≡ s = ap (λ l. l ++ (end ∷ drop (i + 1) s)) spelled ∙ ap (λ l. ds ++ l) (sym rest) ∙ take-append-drop i s in
       record {
@@ -98,6 +99,9 @@ module _ (s : List ℕ) (end n i : ℕ) (low : end < 48) (run : Run s n i) where
             let tail : end ∷ t ≡ end ∷ drop (i + 1) s = sym (drop_at (decimal b) (end ∷ t) i (sym is)) ∙ ap (drop i) same ∙ drop_at (decimal n) _ i (ap length spelled ∙ len) in
             (decimal_injective b n (omega (arith, (glued_count end b t s g).0)) (omega arith) dec, cc);
       }
+
+  pub front : Count s i end → Front count end s n (take (length s - (i + 1)) (drop (i + 1) s))
+  front p = subst (Front count end s n) (sym (between_to_end s (i + 1) (length s) (omega arith))) (onward p)
 
 -- a count begins with a digit
 pub not_count : (end n x : ℕ) (t s : List ℕ) → (IsInRange 48 57 x → ⊥) → glued end (count n) (Some t) ≡ Some (x ∷ s) → ⊥

@@ -18,8 +18,9 @@ abbrev pub Takes : {A : Type 0} → (A → Text) → ℕ → List ℕ → Result
 Takes says end s r = MatchResult r (λ p. Front says end s p.0 p.1.now) (λ e. (e ≡ Shape) × ((b : _) (t : List ℕ) → glued end (says b) (Some t) ≢ Some s))
 
 -- the first i bytes of s are digits, and write n
-abbrev pub Number : List ℕ → ℕ → ℕ → Type 0
-Number s n i = AllDigits 10 (take i s) × (n ≡ digits_value 10 (take i s))
+pub record Number (s : List ℕ) (n i : ℕ) : Type 0 where
+  pub digits : AllDigits 10 (take i s)
+  pub value : n ≡ digits_value 10 (take i s)
 
 -- so they are, at most nine, and no digit follows unless nine came
 pub record Run (s : List ℕ) (n i : ℕ) : Type 0 where

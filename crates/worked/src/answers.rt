@@ -1,5 +1,5 @@
 // A question to a screen, and the line that says what was asked and what was answered.
-use crate::text::{Answered, Dollars, Ruled, Shown, side_word};
+use crate::text::{Answered, Dollars, Ruled, Shown};
 use screens::rules::screen_quote;
 use screens::screen::Screen;
 use screens::view::View;
@@ -43,16 +43,31 @@ pub fn ask<S: Screen>(
     screen: &S,
     question: Question,
 ) -> io::Result<()> {
-    let side = side_word(question.side);
+    let side = question.side;
     let price = Dollars(question.price);
     let shown = Shown(question.view);
     let answer = Answered(screen.ask(&question.view, question.side, question.price));
     println!(rt; "  {name}: {side} at {price}; {shown}: {answer}")
 }
 
+// Asks a screen two prices on one side of a series, the second of them just past an edge.
+pub fn ask_both<S: Screen>(
+    rt: &HostRuntime,
+    name: &str,
+    screen: &S,
+    view: View,
+    side: Side,
+    prices: [Price; 2],
+) -> io::Result<()> {
+    for price in prices {
+        ask(rt, name, screen, Question { view, side, price })?;
+    }
+    Ok(())
+}
+
 // Asks the rules' quote screen.
 pub fn ask_quote(rt: &HostRuntime, question: Question) -> io::Result<()> {
-    let side = side_word(question.side);
+    let side = question.side;
     let price = Dollars(question.price);
     let shown = Shown(question.view);
     let answer = Ruled(screen_quote(&question.view, question.side, question.price));

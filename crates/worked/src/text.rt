@@ -1,11 +1,10 @@
 // How prices and what a screen is shown are printed.
-use screens::view::{Extent, Ruling, Verdict, View};
+use screens::view::{Extent, QuoteRefusal, Ruling, Verdict, View};
 use std::fmt;
 use values::nbbo::Nbbo;
-use values::order::Kind;
 use values::reference::Reference;
 use values::refusal::Refusal;
-use values::side::{Price, Side};
+use values::side::Price;
 
 // A price in dollars and cents.
 #[derive(Clone, Copy)]
@@ -65,20 +64,10 @@ pub struct Shown(pub View);
 impl fmt::Display for Shown {
     fn fmt<W: fmt::Write>(&self, f: &mut fmt::Formatter<W>) -> fmt::Result {
         let strike = Dollars(self.0.strike);
-        let kind = match self.0.kind {
-            Kind::Call => "call",
-            Kind::Put => "put",
-        };
+        let kind = self.0.kind;
         let market = Market(self.0.nbbo);
         let stock = Stock(self.0.reference);
         write!(f, "{strike} {kind}, market {market}, {stock}")
-    }
-}
-
-pub fn side_word(side: Side) -> &'static str {
-    match side {
-        Side::Buy => "buy",
-        Side::Sell => "sell",
     }
 }
 
@@ -88,9 +77,7 @@ pub struct Coded(pub Refusal);
 
 impl fmt::Display for Coded {
     fn fmt<W: fmt::Write>(&self, f: &mut fmt::Formatter<W>) -> fmt::Result {
-        let number = self.0.number();
-        let word = self.0.word();
-        write!(f, "refused, {number} {word}")
+        write!(f, "refused, {} {}", self.0.number(), self.0)
     }
 }
 
@@ -100,8 +87,8 @@ pub struct Answered(pub Verdict);
 impl fmt::Display for Answered {
     fn fmt<W: fmt::Write>(&self, f: &mut fmt::Formatter<W>) -> fmt::Result {
         match self.0 {
-            Verdict::Pass => write!(f, "passes"),
-            Verdict::Refused(cause) => write!(f, "{}", Coded(Refusal::Screen(cause))),
+            Ok(()) => write!(f, "passes"),
+            Err(cause) => write!(f, "{}", Coded(cause.into())),
         }
     }
 }
@@ -112,12 +99,13 @@ pub struct Ruled(pub Ruling);
 impl fmt::Display for Ruled {
     fn fmt<W: fmt::Write>(&self, f: &mut fmt::Formatter<W>) -> fmt::Result {
         match self.0 {
-            Ruling::Pass => write!(f, "passes"),
-            Ruling::Refused(cause, Extent::OneSide) => {
-                write!(f, "{}, costs that side", Coded(Refusal::Screen(cause)))
-            }
-            Ruling::Refused(cause, Extent::WholeClass) => {
-                write!(f, "{}, costs the class", Coded(Refusal::Screen(cause)))
+            Ok(()) => write!(f, "passes"),
+            Err(QuoteRefusal { cause, extent }) => {
+                let cost = match extent {
+                    Extent::OneSide => "that side",
+                    Extent::WholeClass => "the class",
+                };
+                write!(f, "{}, costs {cost}", Coded(cause.into()))
             }
         }
     }

@@ -1,5 +1,5 @@
 // Collar widths, the display price and reach of market orders, and an update of a width.
-use crate::text::{Coded, Dollars, Market, side_word};
+use crate::text::{Coded, Dollars, Market};
 use collars::collar::{Settings, ladder};
 use collars::pricing::price_order;
 use collars::update::{Draft, check_official, check_width};
@@ -25,7 +25,6 @@ pub fn market_order(rt: &HostRuntime, side: Side, bid: Price, offer: Price) -> i
     let display = Dollars(pricing.display(None));
     let reach = Dollars(pricing.reach());
     let market = Market(nbbo);
-    let side = side_word(side);
     println!(rt; "  market order to {side}; market {market}: displays {display}, reaches {reach}")
 }
 

@@ -1,24 +1,24 @@
 // Making a market, and the calls that bring no order or quote.
 ghost use Rattle.std.specs.Prelude.{◌≡◌};
 ghost use Rattle.sources.specs.Sources.{reference_of};
-ghost use Rattle.market.specs.States.{fresh};
-ghost use Rattle.market.specs.Calls.{step_nbbo, step_event, step_enable, step_in_force, step_width};
-ghost use Rattle.market.specs.Markets.{making, state, ComesQuietly};
+ghost use Rattle.market.specs.States.{fresh, without_number};
+ghost use Rattle.market.specs.Calls.{step_in_force};
+ghost use Rattle.market.specs.Markets.{of_market, state, ComesQuietly, DoesQuietly};
 
+use crate::boards::Boards;
 use crate::listing::Listing;
 use crate::market::Market;
-use crate::nbbos::Nbbos;
+use crate::number::{Class, Maker};
 use crate::shutouts::Shutouts;
 use crate::tests::{bad_event, bad_side, is_crossed};
-use crate::widths::AllSettings;
 use collars::update::{Approved, Draft, check_official, check_width};
 use screens::screen::{QuoteScreen, Screen};
 use sources::PriceSource;
 use trading::floor::Floor;
+use values::call::{Call, Update};
 use values::nbbo::Nbbo;
 use values::reference::Event;
 use values::refusal::Refusal;
-use values::side::Price;
 
 impl<O: Screen, Q: QuoteScreen, S: PriceSource> Market<O, Q, S> {
     // The clock stands at 0, the book is empty, every width goes by the ladder, nobody is shut out, and both sides of every series
@@ -32,93 +32,71 @@ impl<O: Screen, Q: QuoteScreen, S: PriceSource> Market<O, Q, S> {
             quotes,
             source,
             listing,
-            nbbos: Nbbos::new(),
-            settings: AllSettings::new(),
+            boards: Boards::new(),
             shutouts: Shutouts::new(),
             floor: Floor::new(),
         }
     }
 
     // N: sets or clears a series' national best bid and offer.
-    pub fn set_nbbo(
-        &mut self,
-        series: u32,
-        bid: Option<Price>,
-        offer: Option<Price>,
-    ) -> Result<u32, Refusal>
-        ensures { ComesQuietly O.Screen Q.Screen Q.extent S.PriceSource self.old self.new result (step_nbbo (making O.Screen Q.Screen Q.extent S.PriceSource self.old) (state O.Screen Q.Screen Q.extent S.PriceSource self.old) series bid offer) }
+    pub fn set_nbbo(&mut self, series: u32, nbbo: Nbbo) -> Result<(), Refusal>
+        ensures { DoesQuietly O.Screen Q.Screen Q.extent S.PriceSource self.old self.new (Call.Nbbo series nbbo) (without_number result) }
     {
-        if series as usize >= self.listing.len() {
-            return Err(Refusal::Name);
-        }
-        if bad_side(bid) || bad_side(offer) {
+        let series = self.listing.number(series)?;
+        if bad_side(nbbo.bid) || bad_side(nbbo.offer) {
             return Err(Refusal::Price);
         }
-        if is_crossed(bid, offer) {
+        if is_crossed(nbbo) {
             return Err(Refusal::Crossed);
         }
-        self.nbbos.put(series as usize, Nbbo { bid, offer });
-        Ok(0)
+        self.boards.set_nbbo(series, nbbo);
+        Ok(())
     }
 
     // U: hands a class's event to the price source.
-    pub fn tell(&mut self, class: u32, event: Event) -> Result<u32, Refusal>
-        ensures { ComesQuietly O.Screen Q.Screen Q.extent S.PriceSource self.old self.new result (step_event (making O.Screen Q.Screen Q.extent S.PriceSource self.old) (state O.Screen Q.Screen Q.extent S.PriceSource self.old) class event) }
+    pub fn tell(&mut self, class: u32, event: Event) -> Result<(), Refusal>
+        ensures { DoesQuietly O.Screen Q.Screen Q.extent S.PriceSource self.old self.new (Call.Event class event) (without_number result) }
     {
-        if class > 15 {
-            return Err(Refusal::Name);
-        }
+        let class = Class::try_from(class)?;
         if bad_event(event) {
             return Err(Refusal::Price);
         }
         if !self.source.is_live() {
             return Err(Refusal::Dead);
         }
-        self.source.tell(class as usize, event);
-        Ok(0)
+        self.source.tell(usize::from(class.get()), event);
+        Ok(())
     }
 
     // E: lets a maker quote in a class again.
-    pub fn enable(&mut self, maker: u32, class: u32) -> Result<u32, Refusal>
-        ensures { ComesQuietly O.Screen Q.Screen Q.extent S.PriceSource self.old self.new result (step_enable (making O.Screen Q.Screen Q.extent S.PriceSource self.old) (state O.Screen Q.Screen Q.extent S.PriceSource self.old) maker class) }
+    pub fn enable(&mut self, maker: u32, class: u32) -> Result<(), Refusal>
+        ensures { DoesQuietly O.Screen Q.Screen Q.extent S.PriceSource self.old self.new (Call.Enable maker class) (without_number result) }
     {
-        if maker > 15 || class > 15 {
-            return Err(Refusal::Name);
-        }
-        self.shutouts.put(maker, class as u8, false);
-        Ok(0)
+        let maker = Maker::try_from(maker)?;
+        let class = Class::try_from(class)?;
+        self.shutouts.put(maker, class, false);
+        Ok(())
     }
 
     // W: puts an approved update in force, which spends it, even where the series is not listed.
-    pub fn put_in_force(&mut self, update: Approved) -> Result<u32, Refusal>
-        ensures { ComesQuietly O.Screen Q.Screen Q.extent S.PriceSource self.old self.new result (step_in_force (making O.Screen Q.Screen Q.extent S.PriceSource self.old) (state O.Screen Q.Screen Q.extent S.PriceSource self.old) update.series update.width) }
+    pub fn put_in_force(&mut self, update: Approved) -> Result<(), Refusal>
+        ensures { ComesQuietly O.Screen Q.Screen Q.extent S.PriceSource self.old self.new (without_number result) (of_market O.Screen Q.Screen Q.extent S.PriceSource step_in_force self.old update.series update.width) }
     {
-        let series = update.series() as usize;
-        if series >= self.listing.len() {
-            return Err(Refusal::Name);
-        }
-        self.settings.put_in_force(series, update);
-        Ok(0)
+        let series = self.listing.number(update.series())?;
+        self.boards.put_in_force(series, update);
+        Ok(())
     }
 
     // W, by its numbers: an update is drafted, approved by both officials and put in force.
-    pub fn update_width(
-        &mut self,
-        series: u32,
-        width: Option<Price>,
-        first: u32,
-        second: u32,
-    ) -> Result<u32, Refusal>
-        ensures { ComesQuietly O.Screen Q.Screen Q.extent S.PriceSource self.old self.new result (step_width (making O.Screen Q.Screen Q.extent S.PriceSource self.old) (state O.Screen Q.Screen Q.extent S.PriceSource self.old) series width first second) }
+    pub fn update_width(&mut self, update: Update) -> Result<(), Refusal>
+        ensures { DoesQuietly O.Screen Q.Screen Q.extent S.PriceSource self.old self.new (Call.Width update) (without_number result) }
     {
-        if series as usize >= self.listing.len() {
-            return Err(Refusal::Name);
-        }
-        check_official(first)?;
-        check_official(second)?;
-        check_width(width)?;
-        let once = Draft::new(series, width).approve(first);
-        once.check_second(second)?;
-        self.put_in_force(once.approve(second))
+        self.listing.number(update.series)?;
+        check_official(update.first)?;
+        check_official(update.second)?;
+        check_width(update.width)?;
+        let once = Draft::new(update.series, update.width).approve(update.first);
+        once.check_second(update.second)?;
+        self.put_in_force(once.approve(update.second))
     }
 }

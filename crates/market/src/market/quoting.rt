@@ -1,201 +1,130 @@
 // A quote: its tests, what its refusal costs, and how it replaces the maker's older one.
-ghost use Rattle.std.specs.Prelude.{◌≡◌, ◌<◌, ◌≤◌, Bool, not, length, None, Ok, Err, nat_le};
-ghost use Rattle.rolls.specs.Rolls.{room, Gains};
-ghost use Rattle.trading.specs.Journals.{withdrawals_of};
+ghost use Rattle.std.specs.Prelude.{◌≡◌, not, Ok, Err, nat_le};
 ghost use Rattle.trading.specs.Doing.{count};
 ghost use Rattle.trading.specs.Floors.{rows_on};
-ghost use Rattle.market.specs.Tests.{first, on_side, tests_quote};
-ghost use Rattle.market.specs.Listings.{listed};
-ghost use Rattle.market.specs.Calls.{refused_quote, taken_quote, step_quote};
-ghost use Rattle.market.specs.Markets.{making, state, room_of, Comes, ComesWith};
+ghost use Rattle.market.specs.States.{with_number};
+ghost use Rattle.market.specs.Tests.{on_side, tests_quote};
+ghost use Rattle.market.specs.Checks.{checked};
+ghost use Rattle.market.specs.Calls.{refused_quote, taken_quote};
+ghost use Rattle.market.specs.Markets.{of_market, room_of, ComesWith, Does};
 
 use crate::market::Market;
 use crate::market::calls::is_tight;
+use crate::number::{Maker, SeriesNumber};
 use crate::tests::{bad_price, bad_size};
 use crate::wanted::{InClass, OnSide};
-use book::row::{Trade, Withdrawal};
 use collars::pricing::Pricing;
-use rolls::roll::Roll;
 use screens::screen::{QuoteScreen, Screen};
-use screens::view::{Extent, Ruling};
+use screens::view::{Extent, QuoteRefusal};
 use sources::PriceSource;
+use trading::blotter::Blotter;
 use trading::ticket::Ticket;
-use values::refusal::{Cause, Refusal};
-use values::side::{Price, Side};
+use values::call::{Call, Quote};
+use values::refusal::Refusal;
 
 impl<O: Screen, Q: QuoteScreen, S: PriceSource> Market<O, Q, S> {
     // Whether 256 rows rest besides the quote that a new one would replace.
-    fn is_full_for(&self, maker: u32, series: u32, side: Side) -> bool
-        requires maker { maker < 16 }
-        requires series { series < 64 }
-        ensures { result ≡ nat_le 256 (count (λ x. not (on_side maker series side x)) (rows_on self.now.floor)) }
+    fn is_full_for(&self, place: &OnSide) -> bool
+        ensures { result ≡ nat_le 256 (count (λ x. not (on_side place.now.maker place.now.series place.now.side x)) (rows_on self.now.floor)) }
     {
-        let older = self.floor.first(&OnSide {
-            maker: maker as u8,
-            series: series as u8,
-            side,
-        });
-        match older {
-            Some(_) => false,
-            None => self.floor.len() >= 256,
-        }
+        self.floor.first(place).is_none() && self.floor.len() >= 256
     }
 
     // The tests of a quote, from the top.
-    fn refuses_quote(
-        &self,
-        maker: u32,
-        series: u32,
-        side: Side,
-        price: Price,
-        size: u32,
-        trades: &Roll<Trade>,
-        withdrawals: &Roll<Withdrawal>,
-    ) -> Option<Refusal>
-        ensures { result ≡ first (tests_quote (making O.Screen Q.Screen Q.extent S.PriceSource self.now) (state O.Screen Q.Screen Q.extent S.PriceSource self.now) (room_of trades.now withdrawals.now) maker series side price size) }
+    fn check_quote(&self, quote: &Quote, blotter: &Blotter) -> Result<(), Refusal>
+        ensures { result ≡ checked (of_market O.Screen Q.Screen Q.extent S.PriceSource tests_quote self.now (room_of blotter.now) quote.now) }
     {
-        if is_tight(trades, withdrawals) {
-            return Some(Refusal::Rows);
+        if is_tight(blotter) {
+            return Err(Refusal::Rows);
         }
-        if series as usize >= self.listing.len() || maker > 15 {
-            return Some(Refusal::Name);
+        let series = self.listing.number(quote.series)?;
+        let maker = Maker::try_from(quote.maker)?;
+        if bad_price(quote.price) {
+            return Err(Refusal::Price);
         }
-        if bad_price(price) {
-            return Some(Refusal::Price);
-        }
-        if bad_size(size) {
-            return Some(Refusal::Size);
+        if bad_size(quote.size) {
+            return Err(Refusal::Size);
         }
         if self.floor.next() > 999_999 {
-            return Some(Refusal::Spent);
+            return Err(Refusal::Spent);
         }
-        if self.is_full_for(maker, series, side) {
-            return Some(Refusal::Full);
+        if self.is_full_for(&OnSide {
+            maker: maker.get(),
+            series: series.get(),
+            side: quote.side,
+        }) {
+            return Err(Refusal::Full);
         }
-        if self
-            .shutouts
-            .has(maker, self.listing.class_of(series as u8))
-        {
-            return Some(Refusal::Shut);
+        let class = self.listing.class_of(series.get());
+        if self.shutouts.has(maker, class) {
+            return Err(Refusal::Shut);
         }
-        None
+        Ok(())
     }
 
     // A refusal by the screen withdraws the maker's quotes as far as it reaches.
-    fn lose_quotes(
-        &mut self,
-        maker: u32,
-        series: u32,
-        side: Side,
-        cause: Cause,
-        extent: Extent,
-        withdrawals: &mut Roll<Withdrawal>,
-    ) -> Refusal
-        requires maker { maker < 16 }
-        requires series { series < length (listed self.old.listing) }
-        requires room { 128 ≤ room withdrawals.old }
-        ensures comes { Comes O.Screen Q.Screen Q.extent S.PriceSource self.old self.new (Err result) (refused_quote (making O.Screen Q.Screen Q.extent S.PriceSource self.old) (state O.Screen Q.Screen Q.extent S.PriceSource self.old) extent cause maker series side) }
-        ensures gains { Gains withdrawals.old withdrawals.new (withdrawals_of (refused_quote (making O.Screen Q.Screen Q.extent S.PriceSource self.old) (state O.Screen Q.Screen Q.extent S.PriceSource self.old) extent cause maker series side).journal) }
+    #[tactic(auto, using(crate::proofs::Hints::loses))]
+    fn lose_quotes(&mut self, quote: Quote, refusal: QuoteRefusal, blotter: &mut Blotter)
+        requires { checked (of_market O.Screen Q.Screen Q.extent S.PriceSource tests_quote self.old (room_of blotter.old) quote) ≡ Ok tt }
+        ensures { ComesWith O.Screen Q.Screen Q.extent S.PriceSource self.old self.new (Err (Refusal.Screen refusal.cause)) (of_market O.Screen Q.Screen Q.extent S.PriceSource refused_quote self.old refusal.extent refusal.cause quote) blotter.old blotter.new }
     {
-        match extent {
-            Extent::OneSide => {
-                self.floor.withdraw(
-                    &OnSide {
-                        maker: maker as u8,
-                        series: series as u8,
-                        side,
-                    },
-                    withdrawals,
-                );
-            }
+        let place = OnSide {
+            maker: quote.maker as u8,
+            series: quote.series as u8,
+            side: quote.side,
+        };
+        match refusal.extent {
+            Extent::OneSide => self.floor.withdraw(&place, &mut blotter.withdrawals),
             Extent::WholeClass => {
-                let class = self.listing.class_of(series as u8);
-                self.floor.withdraw(
-                    &InClass {
-                        maker: maker as u8,
-                        class,
-                        listing: &self.listing,
-                    },
-                    withdrawals,
-                );
-                self.shutouts.put(maker, class, true);
+                let class = self.listing.class_of(place.series);
+                let all = InClass {
+                    maker: place.maker,
+                    class: class.get(),
+                    listing: &self.listing,
+                };
+                self.floor.withdraw(&all, &mut blotter.withdrawals);
+                self.shutouts.put(Maker::new(quote.maker), class, true);
             }
         }
-        Refusal::Screen(cause)
     }
 
-    // A quote that no test or screen refuses takes the next number, in the place of the maker's older one on that side.
-    fn take_quote(
-        &mut self,
-        maker: u32,
-        series: u32,
-        side: Side,
-        price: Price,
-        size: u32,
-        trades: &mut Roll<Trade>,
-        withdrawals: &mut Roll<Withdrawal>,
-    ) -> u32
-        requires { first (tests_quote (making O.Screen Q.Screen Q.extent S.PriceSource self.old) (state O.Screen Q.Screen Q.extent S.PriceSource self.old) (room_of trades.old withdrawals.old) maker series side price size) ≡ None }
-        ensures { ComesWith O.Screen Q.Screen Q.extent S.PriceSource self.old self.new (Ok result) (taken_quote (making O.Screen Q.Screen Q.extent S.PriceSource self.old) (state O.Screen Q.Screen Q.extent S.PriceSource self.old) maker series side price size) trades.old trades.new withdrawals.old withdrawals.new }
+    // A quote that its check and the screen have passed takes the next number, in the place of the maker's older one on that side.
+    #[tactic(auto, using(crate::proofs::Hints::quotes))]
+    fn take_quote(&mut self, quote: Quote, blotter: &mut Blotter) -> u32
+        requires { checked (of_market O.Screen Q.Screen Q.extent S.PriceSource tests_quote self.old (room_of blotter.old) quote) ≡ Ok tt }
+        ensures { ComesWith O.Screen Q.Screen Q.extent S.PriceSource self.old self.new (with_number (Ok result)) (of_market O.Screen Q.Screen Q.extent S.PriceSource taken_quote self.old quote) blotter.old blotter.new }
     {
-        self.floor.withdraw(
-            &OnSide {
-                maker: maker as u8,
-                series: series as u8,
-                side,
-            },
-            withdrawals,
-        );
+        let place = OnSide {
+            maker: quote.maker as u8,
+            series: quote.series as u8,
+            side: quote.side,
+        };
+        self.floor.withdraw(&place, &mut blotter.withdrawals);
         let number = self.floor.next();
         let ticket = Ticket {
             number,
-            series: series as u8,
-            side,
-            limit: price,
-            size,
-            maker: Some(maker as u8),
+            series: place.series,
+            side: place.side,
+            limit: quote.price,
+            size: quote.size,
+            maker: Some(place.maker),
         };
-        self.floor
-            .enter(ticket, Pricing::AtLimit { limit: price }, trades);
+        let pricing = Pricing::AtLimit { limit: quote.price };
+        self.floor.enter(ticket, pricing, &mut blotter.trades);
         number
     }
 
     // Q: a market maker's quote.
-    pub fn quote(
-        &mut self,
-        maker: u32,
-        series: u32,
-        side: Side,
-        price: Price,
-        size: u32,
-        trades: &mut Roll<Trade>,
-        withdrawals: &mut Roll<Withdrawal>,
-    ) -> Result<u32, Refusal>
-        ensures { ComesWith O.Screen Q.Screen Q.extent S.PriceSource self.old self.new result (step_quote (making O.Screen Q.Screen Q.extent S.PriceSource self.old) (state O.Screen Q.Screen Q.extent S.PriceSource self.old) (room_of trades.old withdrawals.old) maker series side price size) trades.old trades.new withdrawals.old withdrawals.new }
+    pub fn quote(&mut self, quote: Quote, blotter: &mut Blotter) -> Result<u32, Refusal>
+        ensures { Does O.Screen Q.Screen Q.extent S.PriceSource self.old self.new (Call.Quote quote) (with_number result) blotter.old blotter.new }
     {
-        if let Some(refusal) = self.refuses_quote(
-            maker,
-            series,
-            side,
-            price,
-            size,
-            trades,
-            withdrawals,
-        ) {
-            return Err(refusal);
-        }
-        match self.quotes.judge(&self.view(series), side, price) {
-            Ruling::Pass => Ok(self.take_quote(
-                maker,
-                series,
-                side,
-                price,
-                size,
-                trades,
-                withdrawals,
-            )),
-            Ruling::Refused(cause, extent) => {
-                Err(self.lose_quotes(maker, series, side, cause, extent, withdrawals))
+        self.check_quote(&quote, blotter)?;
+        let view = self.view(SeriesNumber::new(quote.series));
+        match self.quotes.judge(&view, quote.side, quote.price) {
+            Ok(()) => Ok(self.take_quote(quote, blotter)),
+            Err(refusal) => {
+                self.lose_quotes(quote, refusal, blotter);
+                Err(refusal.cause.into())
             }
         }
     }

@@ -1,14 +1,15 @@
 // What is asked of the shutouts, and changed in them.
-ghost use Rattle.std.specs.Prelude.{◌≡◌, ℕ, ◌<◌, false};
+ghost use Rattle.std.specs.Prelude.{◌≡◌, ℕ, false};
 ghost use Rattle.market.specs.States.{set_shut};
 ghost use Rattle.market.specs.Shutouts.{shut_in};
 
+use crate::number::{Class, Maker};
 use crate::shutouts::Shutouts;
 
 impl Shutouts {
     // Nobody is shut out.
     pub fn new() -> Shutouts
-        ensures { (k c : ℕ) → shut_in result k c ≡ false }
+        ensures { shut_in result ≡ (λ k c. false) }
     {
         Shutouts {
             table: [[false; 16]; 16],
@@ -16,20 +17,16 @@ impl Shutouts {
     }
 
     // Whether the maker is shut out of the class.
-    pub fn has(&self, maker: u32, class: u8) -> bool
-        requires maker { maker < 16 }
-        requires class { class < 16 }
-        ensures { result ≡ shut_in self.now maker class }
+    pub fn has(&self, maker: Maker, class: Class) -> bool
+        ensures { result ≡ shut_in self.now maker.value class.value }
     {
-        self.table[maker as usize][class as usize]
+        self.table[usize::from(maker.get())][usize::from(class.get())]
     }
 
     // Shuts the maker out of the class, or lets it in again.
-    pub fn put(&mut self, maker: u32, class: u8, shut: bool)
-        requires maker { maker < 16 }
-        requires class { class < 16 }
-        ensures { (k c : ℕ) → shut_in self.new k c ≡ set_shut maker class shut (shut_in self.old) k c }
+    pub fn put(&mut self, maker: Maker, class: Class, shut: bool)
+        ensures { shut_in self.new ≡ set_shut maker.value class.value shut (shut_in self.old) }
     {
-        self.table[maker as usize][class as usize] = shut;
+        self.table[usize::from(maker.get())][usize::from(class.get())] = shut;
     }
 }
