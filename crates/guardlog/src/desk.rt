@@ -42,16 +42,13 @@ impl Answerer for Desk {
     ghost answers = { λ _ item _ text. MayPrint item text };
 
     fn answer(&mut self, line: Option<&[u8]>, out: &mut Vec<u8>) -> io::Result<()> {
+        let mut trades = Roll::new(&mut self.traded);
+        let mut withdrawals = Roll::new(&mut self.withdrawn);
         let mut blotter = Blotter {
-            trades: Roll::new(&mut self.traded),
-            withdrawals: Roll::new(&mut self.withdrawn),
+            trades: &mut trades,
+            withdrawals: &mut withdrawals,
         };
         let answer = self.session.answer_bytes(line, &mut blotter);
-        print_answer(
-            blotter.trades.rows(),
-            blotter.withdrawals.rows(),
-            answer,
-            out,
-        )
+        print_answer(trades.rows(), withdrawals.rows(), answer, out)
     }
 }

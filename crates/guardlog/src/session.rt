@@ -2,6 +2,7 @@
 ghost use Rattle.std.specs.Prelude.{◌≡◌};
 ghost use Rattle.std.specs.Option.{option_copied};
 ghost use Rattle.values.specs.declared.refusal.Refusal.TheVariants.{Shape};
+ghost use Rattle.market.specs.Markets.{SameRolls};
 ghost use Rattle.guardlog.specs.Printing.{IsBroken};
 ghost use Rattle.guardlog.specs.Sessions.{NothingListed};
 
@@ -50,13 +51,16 @@ impl Session {
 
     // Answers a line, by its bytes with their newline; one that is broken whatever its bytes has none.
     pub fn answer_bytes(&mut self, line: Option<&[u8]>, blotter: &mut Blotter) -> Answer
-        ensures { IsBroken (option_copied line.entry) → (result ≡ Err Shape) × (blotter.new ≡ blotter.old) }
+        ensures broken { IsBroken (option_copied line.entry) → (result ≡ Err Shape) × (blotter.new ≡ blotter.old) }
+        ensures rolls { SameRolls blotter.old blotter.new }
     {
         let line = read_line(line.ok_or(Refusal::Shape)?)?;
         self.answer_line(line, blotter)
     }
 
-    fn answer_line(&mut self, line: Line, blotter: &mut Blotter) -> Answer {
+    fn answer_line(&mut self, line: Line, blotter: &mut Blotter) -> Answer
+        ensures { SameRolls blotter.old blotter.new }
+    {
         match line {
             Line::Series(terms) => self.list(terms),
             Line::Call(call) => self.call(call, blotter),
@@ -72,7 +76,9 @@ impl Session {
     }
 
     // Another letter: calls the market, which is made now if series were listed until now.
-    fn call(&mut self, call: Call, blotter: &mut Blotter) -> Answer {
+    fn call(&mut self, call: Call, blotter: &mut Blotter) -> Answer
+        ensures { SameRolls blotter.old blotter.new }
+    {
         match self {
             Session::Listing(listing) => {
                 let listing = mem::replace(listing, Listing::new());

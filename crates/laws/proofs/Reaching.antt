@@ -3,9 +3,11 @@ use Rattle.std.proofs.Common.{◌≡◌, ℕ, List, [], ◌∷◌, sym, refl, ap
 use Rattle.values.specs.declared.call.Call.{Call}
 use Rattle.values.specs.declared.reference.Reference.{Reference}
 use Rattle.screens.specs.Screens.{Lawful}
+use Rattle.rolls.specs.declared.roll.Roll.{Roll}
 use Rattle.rolls.specs.Rolls.{Gains}
 use Rattle.rolls.proofs.Gaining.{gains_nothing, gains_then}
-use Rattle.trading.specs.declared.blotter.Blotter.{Blotter}
+use Rattle.book.specs.declared.row.Trade.{Trade}
+use Rattle.book.specs.declared.row.Withdrawal.{Withdrawal}
 use Rattle.trading.specs.Journals.{trades_of, withdrawals_of}
 use Rattle.market.specs.States.{Making, State, Room, fresh}
 use Rattle.market.specs.Calls.{step}
@@ -70,11 +72,11 @@ module _ {M : Type 0} (making : M → Making) (state : M → State) where
 
 -- ---- the rolls
 
-pub filled_none : (b : Blotter) → Filled b b []
-filled_none b = record { trades = gains_nothing b.trades; withdrawals = gains_nothing b.withdrawals }
+pub filled_none : (trades : Roll Trade) (withdrawals : Roll Withdrawal) → Filled trades trades withdrawals withdrawals []
+filled_none trades withdrawals = record { trades = gains_nothing trades; withdrawals = gains_nothing withdrawals }
 
-pub filled_more : (b₀ b b' : Blotter) (e : Entry) (h : History) → Filled b₀ b h → Gains b.trades b'.trades (trades_of e.journal) → Gains b.withdrawals b'.withdrawals (withdrawals_of e.journal) → Filled b₀ b' (e ∷ h)
-filled_more b₀ b b' e h f gt gw = record {
-  trades = gains_then b₀.trades b.trades b'.trades (trade_rows h) (trades_of e.journal) f.trades gt;
-  withdrawals = gains_then b₀.withdrawals b.withdrawals b'.withdrawals (withdrawal_rows h) (withdrawals_of e.journal) f.withdrawals gw;
+pub filled_more : (t₀ t t' : Roll Trade) (w₀ w w' : Roll Withdrawal) (e : Entry) (h : History) → Filled t₀ t w₀ w h → Gains t t' (trades_of e.journal) → Gains w w' (withdrawals_of e.journal) → Filled t₀ t' w₀ w' (e ∷ h)
+filled_more t₀ t t' w₀ w w' e h f gt gw = record {
+  trades = gains_then t₀ t t' (trade_rows h) (trades_of e.journal) f.trades gt;
+  withdrawals = gains_then w₀ w w' (withdrawal_rows h) (withdrawals_of e.journal) f.withdrawals gw;
 }

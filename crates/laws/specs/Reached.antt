@@ -1,8 +1,10 @@
 -- From a market of the code to the laws: the markets that calls lead to, by the contract of the calls.
 use Rattle.std.specs.Prelude.{◌≡◌, ℕ, [], ◌∷◌}
 use Rattle.values.specs.declared.reference.Reference.{Reference}
+use Rattle.rolls.specs.declared.roll.Roll.{Roll}
 use Rattle.rolls.specs.Rolls.{Gains}
-use Rattle.trading.specs.declared.blotter.Blotter.{Blotter}
+use Rattle.book.specs.declared.row.Trade.{Trade}
+use Rattle.book.specs.declared.row.Withdrawal.{Withdrawal}
 use Rattle.market.specs.States.{Making, State}
 use Rattle.market.specs.Calls.{step}
 use Rattle.laws.specs.Histories.{Entry, History}
@@ -27,7 +29,7 @@ module _ {M : Type 0} (making : M → Making) (state : M → State) where
   abbrev pub EveryHistoryLawful : (ℕ → Reference) → M → Type 0
   EveryHistoryLawful refs x = (y : M) (h : History) → Reached x y h → Laws (making x) refs h × RowsAreTrue (state y).rows h
 
--- the calls of a history filled the rolls of a blotter with its trades and withdrawals, in order
-pub record Filled (b₀ b : Blotter) (h : History) : Type 0 where
-  pub trades : Gains b₀.trades b.trades (trade_rows h)
-  pub withdrawals : Gains b₀.withdrawals b.withdrawals (withdrawal_rows h)
+-- the calls of a history filled the rolls with its trades and withdrawals, in order
+pub record Filled (t₀ t : Roll Trade) (w₀ w : Roll Withdrawal) (h : History) : Type 0 where
+  pub trades : Gains t₀ t (trade_rows h)
+  pub withdrawals : Gains w₀ w (withdrawal_rows h)

@@ -21,7 +21,7 @@ use Rattle.market.specs.States.{Answer, Outcome, view_in}
 use Rattle.market.specs.Tests.{first, tests_order, tests_quote}
 use Rattle.market.specs.Checks.{answering, checked}
 use Rattle.market.specs.Calls.{refuse, unless, screening, order_by, quote_by}
-use Rattle.market.specs.Markets.{making, state, room_of, ComesWith, DoesQuietly, Does}
+use Rattle.market.specs.Markets.{making, state, room_of, SameRolls, ComesWith, DoesQuietly, Does}
 
 -- ---- what a check says of its tests
 
@@ -39,6 +39,10 @@ failed (Some other) why e = cc
 pub none_gained : {T : Type 0} (roll : Roll T) (xs : List T) → xs ≡ [] → Gains roll roll xs
 none_gained roll xs e = rw e (gains_nothing roll)
 
+-- a blotter that no call changes
+unmoved : (b : Blotter) → SameRolls b b
+unmoved b = record { trades = refl; withdrawals = refl }
+
 module _ {O Q S : Type 0} (o : screen.Ghosts O) (q : screen.Ghosts Q) (k : Q → View → Side → ℕ → Extent) (s : source.Ghosts S) (m : Market O Q S) where
   -- a call that adds nothing leaves the rolls as they were
   pub quietly : (m' : Market O Q S) (x : Call) (a : Answer) (b : Blotter) → DoesQuietly o q k s m m' x a → Does o q k s m m' x a b b
@@ -46,16 +50,18 @@ module _ {O Q S : Type 0} (o : screen.Ghosts O) (q : screen.Ghosts Q) (k : Q →
       let q = h (room_of b) in
       record {
         comes = q.comes;
-        trades_gain = none_gained b.trades _ (ap trades_of q.quiet);
-        withdrawals_gain = none_gained b.withdrawals _ (ap withdrawals_of q.quiet);
+        trades_gain = none_gained b.trades.now _ (ap trades_of q.quiet);
+        withdrawals_gain = none_gained b.withdrawals.now _ (ap withdrawals_of q.quiet);
+        same_rolls = unmoved b;
       }
 
   -- a refused call changes nothing
   pub refused : (why : Refusal) (b : Blotter) → ComesWith o q k s m m (Err why) (refuse (state o q k s m) why) b b
   refused why b = record {
     comes = record { answers = refl; moves = refl; stays = refl };
-    trades_gain = gains_nothing b.trades;
-    withdrawals_gain = gains_nothing b.withdrawals;
+    trades_gain = gains_nothing b.trades.now;
+    withdrawals_gain = gains_nothing b.withdrawals.now;
+    same_rolls = unmoved b;
   }
 
   pub stopped : (t : Option Refusal) (why : Refusal) (out : Outcome) (b : Blotter) → Err why ≡ answering t → ComesWith o q k s m m (Err why) (unless t (state o q k s m) out) b b

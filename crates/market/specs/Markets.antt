@@ -1,6 +1,9 @@
 -- A market of the code as the definitions have it, and what a call of the code does.
 use Rattle.std.specs.Prelude.{◌≡◌, ℕ, []}
+use Rattle.rolls.specs.declared.roll.Roll.{Roll}
 use Rattle.rolls.specs.Rolls.{Gains, room}
+use Rattle.book.specs.declared.row.Trade.{Trade}
+use Rattle.book.specs.declared.row.Withdrawal.{Withdrawal}
 use Rattle.screens.specs.declared.view.View.{View}
 use Rattle.screens.specs.declared.view.Extent.{Extent}
 use Rattle.values.specs.declared.call.Call.{Call}
@@ -18,9 +21,18 @@ use Rattle.market.specs.Boards.{nbbo_at, width_at}
 use Rattle.market.specs.Shutouts.{shut_in}
 use Rattle.market.specs.Calls.{step}
 
--- the free rows of a blotter's two rolls
+-- the free rows of two rolls
+abbrev pub free_rows : Roll Trade → Roll Withdrawal → Room
+free_rows trades withdrawals = record { trades = room trades; withdrawals = room withdrawals }
+
+-- of a blotter's two rolls
 abbrev pub room_of : Blotter → Room
-room_of b = record { trades = room b.trades; withdrawals = room b.withdrawals }
+room_of b = free_rows b.trades.now b.withdrawals.now
+
+-- a blotter lends the rolls that it lent before
+pub record SameRolls (b b' : Blotter) : Type 0 where
+  pub trades : b'.trades.ghost_name ≡ b.trades.ghost_name
+  pub withdrawals : b'.withdrawals.ghost_name ≡ b.withdrawals.ghost_name
 
 module _ {O Q S : Type 0} (o : screen.Ghosts O) (q : screen.Ghosts Q) (k : Q → View → Side → ℕ → Extent) (s : source.Ghosts S) where
   abbrev pub making : Market O Q S → Making
@@ -55,8 +67,9 @@ module _ {O Q S : Type 0} (o : screen.Ghosts O) (q : screen.Ghosts Q) (k : Q →
   -- and adds to the rolls of a blotter what its journal notes
   pub record ComesWith (m m' : Market O Q S) (answer : Answer) (out : Outcome) (b b' : Blotter) : Type 0 where
     pub comes : Comes m m' answer out
-    pub trades_gain : Gains b.trades b'.trades (trades_of out.journal)
-    pub withdrawals_gain : Gains b.withdrawals b'.withdrawals (withdrawals_of out.journal)
+    pub trades_gain : Gains b.trades.now b'.trades.now (trades_of out.journal)
+    pub withdrawals_gain : Gains b.withdrawals.now b'.withdrawals.now (withdrawals_of out.journal)
+    pub same_rolls : SameRolls b b'
 
   -- what a call of the code does that is given no blotter: it comes to the same whatever the room
   abbrev pub DoesQuietly : Market O Q S → Market O Q S → Call → Answer → Type 0

@@ -4,12 +4,14 @@ ghost use Rattle.market.specs.States.{with_number, without_number};
 ghost use Rattle.market.specs.Tests.{tight, tests_order};
 ghost use Rattle.market.specs.Checks.{checked};
 ghost use Rattle.market.specs.Calls.{screening, taken_order};
-ghost use Rattle.market.specs.Markets.{of_market, room_of, ComesWith, Does};
+ghost use Rattle.market.specs.Markets.{of_market, free_rows, room_of, ComesWith, Does};
 
 use crate::market::Market;
 use crate::number::SeriesNumber;
 use crate::tests::{bad_limit, bad_size, is_day, is_market, is_one_sided};
 use crate::wanted::Numbered;
+use book::row::{Trade, Withdrawal};
+use rolls::roll::Roll;
 use screens::screen::{QuoteScreen, Screen};
 use screens::view::Verdict;
 use sources::PriceSource;
@@ -21,10 +23,10 @@ use values::refusal::Refusal;
 use values::side::Side;
 
 // Whether the rolls have too few free rows for a call that may trade or withdraw.
-pub fn is_tight(blotter: &Blotter) -> bool
-    ensures { result ≡ tight (room_of blotter.now) }
+pub fn is_tight(trades: &Roll<Trade>, withdrawals: &Roll<Withdrawal>) -> bool
+    ensures { result ≡ tight (free_rows trades.now withdrawals.now) }
 {
-    blotter.trades.free() < 256 || blotter.withdrawals.free() < 128
+    trades.free() < 256 || withdrawals.free() < 128
 }
 
 impl<O: Screen, Q: QuoteScreen, S: PriceSource> Market<O, Q, S> {
@@ -33,14 +35,14 @@ impl<O: Screen, Q: QuoteScreen, S: PriceSource> Market<O, Q, S> {
     pub fn withdraw(&mut self, number: u32, blotter: &mut Blotter) -> Result<(), Refusal>
         ensures { Does O.Screen Q.Screen Q.extent S.PriceSource self.old self.new (Call.Withdraw number) (without_number result) blotter.old blotter.new }
     {
-        if is_tight(blotter) {
+        if is_tight(blotter.trades, blotter.withdrawals) {
             return Err(Refusal::Rows);
         }
         if self.floor.row(number).is_none() {
             return Err(Refusal::Unknown);
         }
         self.floor
-            .withdraw(&Numbered { number }, &mut blotter.withdrawals);
+            .withdraw(&Numbered { number }, blotter.withdrawals);
         Ok(())
     }
 
@@ -49,13 +51,13 @@ impl<O: Screen, Q: QuoteScreen, S: PriceSource> Market<O, Q, S> {
     pub fn advance(&mut self, ms: u32, blotter: &mut Blotter) -> Result<(), Refusal>
         ensures { Does O.Screen Q.Screen Q.extent S.PriceSource self.old self.new (Call.Clock ms) (without_number result) blotter.old blotter.new }
     {
-        if is_tight(blotter) {
+        if is_tight(blotter.trades, blotter.withdrawals) {
             return Err(Refusal::Rows);
         }
         if ms > 1_000 || self.floor.clock() + ms > 100_000_000 {
             return Err(Refusal::Clock);
         }
-        self.floor.advance(ms, &mut blotter.trades);
+        self.floor.advance(ms, blotter.trades);
         Ok(())
     }
 
@@ -63,7 +65,7 @@ impl<O: Screen, Q: QuoteScreen, S: PriceSource> Market<O, Q, S> {
     fn check_order(&self, order: &Order, blotter: &Blotter) -> Result<(), Refusal>
         ensures { result ≡ checked (of_market O.Screen Q.Screen Q.extent S.PriceSource tests_order self.now (room_of blotter.now) order.now) }
     {
-        if is_tight(blotter) {
+        if is_tight(blotter.trades, blotter.withdrawals) {
             return Err(Refusal::Rows);
         }
         let series = self.listing.number(order.series)?;
@@ -116,11 +118,11 @@ impl<O: Screen, Q: QuoteScreen, S: PriceSource> Market<O, Q, S> {
             Condition::Day => {
                 let board = self.boards.board(series);
                 let pricing = board.price(order.side, limit);
-                self.floor.enter(ticket, pricing, &mut blotter.trades);
+                self.floor.enter(ticket, pricing, blotter.trades);
             }
             Condition::Immediate => {
                 self.floor
-                    .enter_now(ticket, &mut blotter.trades, &mut blotter.withdrawals);
+                    .enter_now(ticket, blotter.trades, blotter.withdrawals);
             }
         }
         number

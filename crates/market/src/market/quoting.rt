@@ -34,7 +34,7 @@ impl<O: Screen, Q: QuoteScreen, S: PriceSource> Market<O, Q, S> {
     fn check_quote(&self, quote: &Quote, blotter: &Blotter) -> Result<(), Refusal>
         ensures { result ≡ checked (of_market O.Screen Q.Screen Q.extent S.PriceSource tests_quote self.now (room_of blotter.now) quote.now) }
     {
-        if is_tight(blotter) {
+        if is_tight(blotter.trades, blotter.withdrawals) {
             return Err(Refusal::Rows);
         }
         let series = self.listing.number(quote.series)?;
@@ -74,7 +74,7 @@ impl<O: Screen, Q: QuoteScreen, S: PriceSource> Market<O, Q, S> {
             side: quote.side,
         };
         match refusal.extent {
-            Extent::OneSide => self.floor.withdraw(&place, &mut blotter.withdrawals),
+            Extent::OneSide => self.floor.withdraw(&place, blotter.withdrawals),
             Extent::WholeClass => {
                 let class = self.listing.class_of(place.series);
                 let all = InClass {
@@ -82,7 +82,7 @@ impl<O: Screen, Q: QuoteScreen, S: PriceSource> Market<O, Q, S> {
                     class: class.get(),
                     listing: &self.listing,
                 };
-                self.floor.withdraw(&all, &mut blotter.withdrawals);
+                self.floor.withdraw(&all, blotter.withdrawals);
                 self.shutouts.put(Maker::new(quote.maker), class, true);
             }
         }
@@ -99,7 +99,7 @@ impl<O: Screen, Q: QuoteScreen, S: PriceSource> Market<O, Q, S> {
             series: quote.series as u8,
             side: quote.side,
         };
-        self.floor.withdraw(&place, &mut blotter.withdrawals);
+        self.floor.withdraw(&place, blotter.withdrawals);
         let number = self.floor.next();
         let ticket = Ticket {
             number,
@@ -110,7 +110,7 @@ impl<O: Screen, Q: QuoteScreen, S: PriceSource> Market<O, Q, S> {
             maker: Some(place.maker),
         };
         let pricing = Pricing::AtLimit { limit: quote.price };
-        self.floor.enter(ticket, pricing, &mut blotter.trades);
+        self.floor.enter(ticket, pricing, blotter.trades);
         number
     }
 

@@ -16,6 +16,7 @@ returns-in-WholeClass g c =
         moves = λ i. record { nbbo = st.nbbo; reference = st.reference; width = st.width; shut = shut i; rows = did.rests i; clock = leaves.clocked i; next = leaves.numbered i };
         stays = refl;
       };
-      trades_gain = none_gained c.args.blotter.now.trades _ (pull_same _ _);
+      trades_gain = none_gained c.args.blotter.now.trades.now _ (pull_same _ _);
       withdrawals_gain = did.gains;
+      same_rolls = record { trades = refl; withdrawals = refl };
     })
