@@ -1,7 +1,7 @@
 -- A refused call gives no trade, uses no number and leaves no trace.
 use Rattle.std.proofs.Common.{◌≡◌, ℕ, suc, ◌<◌, Bool, true, false, not, ◌&&◌, eqb, ◌⊎◌, List, [], ◌∷◌, ◌++◌, length, is_some, Some, None, Ok, Err, sym, refl, ap, ◌∙◌, subst, inl, inr, ⊎_elim, arith}
 use mathlib.Core.Path.{fun_ext}
-use Rattle.std.proofs.lemmas.Bool.{eqb-true, and_parts, not-true}
+use Rattle.std.proofs.lemmas.Bool.{eqb-true, eq-eqb, and_parts, not-true}
 use Rattle.values.specs.declared.call.Call.{Call}
 use Rattle.values.specs.declared.call.Call.TheVariants as call
 use Rattle.values.specs.declared.call.Quote.{Quote}
@@ -18,7 +18,7 @@ use Rattle.market.specs.Tests.{on_side, in_class}
 use Rattle.market.specs.Calls.{refuse, step}
 use Rattle.laws.specs.Histories.{Entry, History}
 use Rattle.laws.specs.Runs.{Asked, entry_of, run}
-use Rattle.laws.specs.Admissions.{is_taken, gave, brought_by, admits, admitted_in}
+use Rattle.laws.specs.Admissions.{is_taken, brought_by, admits, is_admission, admitted_in}
 use Rattle.laws.specs.Shutouts.{is_screened, shut_after, shut_out}
 use Rattle.laws.specs.Refusals.{is_quote, is_moot, Withdrawals, EveryRunRefusesIdly, latest, Traceless, EveryRefusalLeavesNoTrace}
 use Rattle.laws.proofs.Keeping.{pull_keeps}
@@ -53,18 +53,20 @@ pub record Idly (st : State) (a : Asked) (o : Outcome) : Type 0 where
   pub moot : is_moot (entry_of a o) ≡ true → o.journal ≡ []
   pub reduced : is_taken o.answer ≡ false → Reduced st o
   pub alone : is_taken o.answer ≡ false → Withdrawals o.journal
-  pub numbered : (n : ℕ) → admits n (entry_of a o) ≡ true → n ≡ st.next
+  pub numbers : (n : ℕ) → admits n (entry_of a o) ≡ true → n ≡ st.next
+  pub numbered : is_admission (entry_of a o) ≡ true → admits st.next (entry_of a o) ≡ true
 
 refuse_idly : (st : State) (a : Asked) (r : Refusal) → Idly st a (refuse st r)
-refuse_idly st a r = record { moot = λ z. refl; reduced = λ z. record { same = refl; rows = λ y. refl }; alone = λ z. tt; numbered = λ n z. absurd (clash false (and_parts (is_some (brought_by a.1)) false z).1 refl) }
+refuse_idly st a r = record { moot = λ z. refl; reduced = λ z. record { same = refl; rows = λ y. refl }; alone = λ z. tt; numbers = λ n z. absurd (clash false (and_parts (is_some (brought_by a.1)) false z).1 refl); numbered = λ z. absurd (clash false (and_parts (is_some (brought_by a.1)) false z).1 refl) }
 
--- taken, with no number given
-plainly : (st : State) (a : Asked) (o : Outcome) → o.answer ≡ Ok None → Idly st a o
-plainly st a o e = record {
+-- no order or quote, and taken, with no number given
+plainly : (st : State) (a : Asked) (o : Outcome) → o.answer ≡ Ok None → is_some (brought_by a.1) ≡ false → Idly st a o
+plainly st a o e b = record {
   moot = λ z. absurd (clash (is_moot (entry_of a o)) z (rw e));
   reduced = λ z. absurd (clash (is_taken o.answer) (ap is_taken e) z);
   alone = λ z. absurd (clash (is_taken o.answer) (ap is_taken e) z);
-  numbered = λ n z. absurd (clash (gave n o.answer) (and_parts (is_some (brought_by a.1)) (gave n o.answer) z).1 (ap (gave n) e));
+  numbers = λ n z. absurd (clash (is_some (brought_by a.1)) (and_parts (is_some (brought_by a.1)) _ z).0 b);
+  numbered = λ z. absurd (clash (is_some (brought_by a.1)) (and_parts (is_some (brought_by a.1)) _ z).0 b);
 }
 
 -- taken, with the next number given
@@ -73,7 +75,8 @@ next_given st a o e b = record {
   moot = λ z. absurd (clash (is_moot (entry_of a o)) z (rw e));
   reduced = λ z. absurd (clash (is_taken o.answer) (ap is_taken e) z);
   alone = λ z. absurd (clash (is_taken o.answer) (ap is_taken e) z);
-  numbered = λ n z. let y : eqb st.next n ≡ true = rw (b, e) at z in sym (eqb-true st.next n y);
+  numbers = λ n z. let y : eqb st.next n ≡ true = rw (b, e) at z in sym (eqb-true st.next n y);
+  numbered = λ z. rw (b, e) (eq-eqb st.next st.next refl);
 }
 
 -- a quote that its screen refuses, where the rows that p names are withdrawn
@@ -82,7 +85,8 @@ pulled_idly st room q why p shut = record {
   moot = λ z. absurd (clash false z refl);
   reduced = λ z. record { same = refl; rows = λ y. pull_still p (desk st.rows) refl y };
   alone = λ z. pulled_alone p (desk st.rows) tt;
-  numbered = λ n z. absurd (clash false z refl);
+  numbers = λ n z. absurd (clash false z refl);
+  numbered = λ z. absurd (clash false z refl);
 }
 
 module _ (m : Making) (st : State) where
@@ -92,7 +96,7 @@ module _ (m : Making) (st : State) where
   came_idly (quote_taken q met pass) = next_given st _ _ refl refl
   came_idly {room} (side_pulled q why extent) = pulled_idly st room q why (on_side q.maker q.series q.side) st.shut
   came_idly {room} (class_pulled q why extent) = pulled_idly st room q why (in_class m q.maker (class_of m q.series)) (set_shut q.maker (class_of m q.series) true st.shut)
-  came_idly other = plainly st _ _ refl
+  came_idly other = plainly st _ _ refl refl
 
   pub step_idly : (room : Room) (c : Call) → Idly st (room, c) (step m st room c)
   step_idly room c = came_idly (came m st room c)
@@ -115,7 +119,8 @@ every_run_refuses_idly m refs lo lq asked = record {
   nothing = λ e before made z. each_made m refs (λ e before. is_moot e ≡ true → e.journal ≡ []) (λ older a z. (step_idly m (run m refs older).state a.0 a.1).moot z) asked e before made.0 made.1 z;
   nobody = λ e before made z k c. moot_shut m refs e before z k c;
   withdrawals = λ e before made z. each_made m refs (λ e before. is_taken e.answer ≡ false → Withdrawals e.journal) (λ older a z. (step_idly m (run m refs older).state a.0 a.1).alone z) asked e before made.0 made.1 z;
-  numbers = λ e before made n z. each_made m refs (λ e before. (n : ℕ) → admits n e ≡ true → n ≡ suc (admitted_in before)) (λ older a n z. (step_idly m (run m refs older).state a.0 a.1).numbered n z ∙ (run_kept m refs lo lq older).next) asked e before made.0 made.1 n z;
+  numbers = λ e before made n z. each_made m refs (λ e before. (n : ℕ) → admits n e ≡ true → n ≡ suc (admitted_in before)) (λ older a n z. (step_idly m (run m refs older).state a.0 a.1).numbers n z ∙ (run_kept m refs lo lq older).next) asked e before made.0 made.1 n z;
+  numbered = λ e before made z. each_made m refs (λ e before. is_admission e ≡ true → admits (suc (admitted_in before)) e ≡ true) (λ older a z. let o = step m (run m refs older).state a.0 a.1 in subst (λ (n : ℕ). admits n (entry_of a o) ≡ true) (run_kept m refs lo lq older).next ((step_idly m (run m refs older).state a.0 a.1).numbered z)) asked e before made.0 made.1 z;
 }
 
 -- ---- no trace

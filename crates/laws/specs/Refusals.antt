@@ -8,7 +8,7 @@ use Rattle.screens.specs.Screens.{Lawful}
 use Rattle.trading.specs.Journals.{Event, Shown, Moved, Traded, Withdrawn}
 use Rattle.market.specs.States.{Making}
 use Rattle.laws.specs.Histories.{Entry, History, Made}
-use Rattle.laws.specs.Admissions.{is_taken, admits, admitted_in}
+use Rattle.laws.specs.Admissions.{is_taken, admits, is_admission, admitted_in}
 use Rattle.laws.specs.Shutouts.{is_screened, shut_out}
 use Rattle.laws.specs.Runs.{Asked, run}
 
@@ -36,6 +36,8 @@ pub record RefusalsAreIdle (m : Making) (refs : ℕ → Reference) (h : History)
   pub withdrawals : (e : Entry) (before : History) → Made e before h → is_taken e.answer ≡ false → Withdrawals e.journal
   -- numbers are given from 1, one after another, so that a refused call uses none
   pub numbers : (e : Entry) (before : History) → Made e before h → (n : ℕ) → admits n e ≡ true → n ≡ suc (admitted_in before)
+  -- each order or quote that is taken is given a number: the one after those given before it
+  pub numbered : (e : Entry) (before : History) → Made e before h → is_admission e ≡ true → admits (suc (admitted_in before)) e ≡ true
 
 abbrev pub EveryRunRefusesIdly : Type 0
 EveryRunRefusesIdly = (m : Making) (refs : ℕ → Reference) → Lawful m.orders → Lawful m.quotes → (asked : List Asked) → RefusalsAreIdle m refs (run m refs asked).history
