@@ -29,6 +29,9 @@ one_more s i n d lt h is e = record {
   value = omega (arith, digits_value_more 10 s i lt, digit_value_digit _ is, h.value);
 }
 
+-- the bytes of what is cut off are those of the text
+pub ruleset cut = (room, length-take-le, get_or-take)
+
 -- what is written of a count that is written
 pub count_some : (b : ℕ) → b < 10 ^ 9 → count b ≡ Some (decimal b)
 count_some b h = cond-true _ _ _ (lt-ltb b (10 ^ 9) h)

@@ -39,18 +39,19 @@ pub fn read_last<F: ReadField>(bytes: &[u8]) -> Result<F, Refusal>
 }
 
 // The number that the digits at the front write, and how many digits they are: at most nine are taken.
-#[tactic(auto, using(crate::proofs::Counts::room))]
+#[tactic(auto, using(crate::proofs::Counts::cut))]
 fn read_digits(bytes: &[u8]) -> (u32, usize)
     ensures { Run bytes.now result.0 result.1 }
 {
+    let most = bytes.len().min(MOST_DIGITS);
     let mut n = 0;
-    for (i, byte) in bytes.iter().enumerate() {
-        if i == MOST_DIGITS || !byte.is_ascii_digit() {
+    for (i, byte) in bytes[..most].iter().enumerate() {
+        if !byte.is_ascii_digit() {
             return (n, i);
         }
         n = n * 10 + u32::from(*byte - b'0');
     }
-    (n, bytes.len())
+    (n, most)
 }
 
 // Whether digits at the front, so many of them, are a count that the byte `end` ends.

@@ -17,7 +17,3 @@ pub record Grown (before : Tail) (says : Text) (room : ℕ) (after : Tail) : Typ
 -- the same, or the text cannot be written
 abbrev pub Grows : Tail → Text → ℕ → Result Unit Refusal → Tail → Type 0
 Grows before says room r after = MatchResult r (λ _. Grown before says room after) (λ e. (e ≡ Shape) × (says ≡ None))
-
--- a text is made, in at most `room` bytes, or it cannot be written
-abbrev pub Makes : Text → ℕ → Result Tail Refusal → Type 0
-Makes says room r = MatchResult r (λ t. (says ≡ Some (made t)) × (80 ≤ t.start + room)) (λ e. (e ≡ Shape) × (says ≡ None))

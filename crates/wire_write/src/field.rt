@@ -1,7 +1,7 @@
 // Writing a field of a line.
 ghost use Rattle.std.specs.Prelude.{◌≤◌, Some};
-ghost use Rattle.wire_format.specs.Format.{glued, newline};
-ghost use Rattle.wire_write.specs.Tails.{made, Grows, Makes};
+ghost use Rattle.wire_format.specs.Format.{glued};
+ghost use Rattle.wire_write.specs.Tails.{made, Grows};
 
 use crate::tail::Tail;
 use values::order::{Condition, Kind, OrderPrice};
@@ -15,15 +15,6 @@ pub trait WriteField: Field {
     fn put(self, tail: &mut Tail, end: u8) -> Result<(), Refusal>
         requires { 10 ≤ tail.old.start }
         ensures { Grows tail.old (glued end (Self.says self) (Some (made tail.old))) 10 result tail.new };
-}
-
-// The last field, and the newline that ends it.
-pub fn of_last<F: WriteField>(field: F) -> Result<Tail, Refusal>
-    ensures { Makes (newline (F.says field)) 10 result }
-{
-    let mut tail = Tail::empty();
-    field.put(&mut tail, b'\n')?;
-    Ok(tail)
 }
 
 impl WriteField for u32 {

@@ -2,9 +2,9 @@
 ghost use Rattle.std.specs.Prelude.{◌≡◌, ◌≤◌, [], ◌∷◌, take, Some, MatchResult};
 ghost use Rattle.wire_format.specs.Format.{written, call_text, count, event_text, tab, newline};
 ghost use Rattle.wire_format.specs.Writing.{writing, over, Refused};
-ghost use Rattle.wire_write.specs.Tails.{Makes};
+ghost use Rattle.wire_write.specs.Tails.{made, Grows};
 
-use crate::field::{WriteField, of_last};
+use crate::field::WriteField;
 use crate::tail::Tail;
 use values::call::{Call, Order, Quote, Terms, Update};
 use values::nbbo::Nbbo;
@@ -14,141 +14,166 @@ use values::side::Price;
 use wire_format::line::Line;
 
 // A price at the end of a line, and before it the letter of its event.
-fn of_priced_event(letter: u8, price: Price) -> Result<Tail, Refusal>
-    ensures { Makes (tab (Some (letter ∷ [])) (newline (count price))) 12 result }
+fn put_priced_event(letter: u8, price: Price, tail: &mut Tail) -> Result<(), Refusal>
+    requires room { 12 ≤ tail.old.start }
+    requires empty { made tail.old ≡ [] }
+    ensures { Grows tail.old (tab (Some (letter ∷ [])) (newline (count price))) 12 result tail.new }
 {
-    let mut tail = of_last(price)?;
+    price.put(tail, b'\n')?;
     tail.put_letter(letter, b'\t');
-    Ok(tail)
+    Ok(())
 }
 
 // An event at the end of a line.
-fn of_event(event: Event) -> Result<Tail, Refusal>
-    ensures { Makes (event_text event) 12 result }
+fn put_event(event: Event, tail: &mut Tail) -> Result<(), Refusal>
+    requires room { 12 ≤ tail.old.start }
+    requires empty { made tail.old ≡ [] }
+    ensures { Grows tail.old (event_text event) 12 result tail.new }
 {
     let letter = match event {
-        Event::Close(price) => return of_priced_event(b'C', price),
-        Event::Open(price) => return of_priced_event(b'O', price),
-        Event::Last(price) => return of_priced_event(b'L', price),
+        Event::Close(price) => return put_priced_event(b'C', price, tail),
+        Event::Open(price) => return put_priced_event(b'O', price, tail),
+        Event::Last(price) => return put_priced_event(b'L', price, tail),
         Event::Halt => b'H',
         Event::Resume => b'R',
     };
-    let mut tail = Tail::empty();
     tail.put_letter(letter, b'\n');
-    Ok(tail)
+    Ok(())
 }
 
 // The nine forms, each from its last field to its letter. Two forms with the same fields say different things, so each has its function.
-fn of_series(terms: Terms) -> Result<Tail, Refusal>
-    ensures { Makes (written (Line.Series terms)) 80 result }
+fn put_series(terms: Terms, tail: &mut Tail) -> Result<(), Refusal>
+    requires room { tail.old.start ≡ 80 }
+    requires empty { made tail.old ≡ [] }
+    ensures { Grows tail.old (written (Line.Series terms)) 80 result tail.new }
 {
-    let mut tail = of_last(terms.strike)?;
-    terms.kind.put(&mut tail, b'\t')?;
-    terms.class.put(&mut tail, b'\t')?;
+    terms.strike.put(tail, b'\n')?;
+    terms.kind.put(tail, b'\t')?;
+    terms.class.put(tail, b'\t')?;
     tail.put_letter(b'S', b'\t');
-    Ok(tail)
+    Ok(())
 }
 
-fn of_nbbo(series: u32, nbbo: Nbbo) -> Result<Tail, Refusal>
-    ensures { Makes (call_text (Call.Nbbo series nbbo)) 80 result }
+fn put_nbbo(series: u32, nbbo: Nbbo, tail: &mut Tail) -> Result<(), Refusal>
+    requires room { tail.old.start ≡ 80 }
+    requires empty { made tail.old ≡ [] }
+    ensures { Grows tail.old (call_text (Call.Nbbo series nbbo)) 80 result tail.new }
 {
-    let mut tail = of_last(nbbo.offer)?;
-    nbbo.bid.put(&mut tail, b'\t')?;
-    series.put(&mut tail, b'\t')?;
+    nbbo.offer.put(tail, b'\n')?;
+    nbbo.bid.put(tail, b'\t')?;
+    series.put(tail, b'\t')?;
     tail.put_letter(b'N', b'\t');
-    Ok(tail)
+    Ok(())
 }
 
-fn of_tape(class: u32, event: Event) -> Result<Tail, Refusal>
-    ensures { Makes (call_text (Call.Event class event)) 80 result }
+fn put_tape(class: u32, event: Event, tail: &mut Tail) -> Result<(), Refusal>
+    requires room { tail.old.start ≡ 80 }
+    requires empty { made tail.old ≡ [] }
+    ensures { Grows tail.old (call_text (Call.Event class event)) 80 result tail.new }
 {
-    let mut tail = of_event(event)?;
-    class.put(&mut tail, b'\t')?;
+    put_event(event, tail)?;
+    class.put(tail, b'\t')?;
     tail.put_letter(b'U', b'\t');
-    Ok(tail)
+    Ok(())
 }
 
-fn of_order(order: Order) -> Result<Tail, Refusal>
-    ensures { Makes (call_text (Call.Order order)) 80 result }
+fn put_order(order: Order, tail: &mut Tail) -> Result<(), Refusal>
+    requires room { tail.old.start ≡ 80 }
+    requires empty { made tail.old ≡ [] }
+    ensures { Grows tail.old (call_text (Call.Order order)) 80 result tail.new }
 {
-    let mut tail = of_last(order.condition)?;
-    order.size.put(&mut tail, b'\t')?;
-    order.price.put(&mut tail, b'\t')?;
-    order.side.put(&mut tail, b'\t')?;
-    order.series.put(&mut tail, b'\t')?;
+    order.condition.put(tail, b'\n')?;
+    order.size.put(tail, b'\t')?;
+    order.price.put(tail, b'\t')?;
+    order.side.put(tail, b'\t')?;
+    order.series.put(tail, b'\t')?;
     tail.put_letter(b'O', b'\t');
-    Ok(tail)
+    Ok(())
 }
 
-fn of_quote(quote: Quote) -> Result<Tail, Refusal>
-    ensures { Makes (call_text (Call.Quote quote)) 80 result }
+fn put_quote(quote: Quote, tail: &mut Tail) -> Result<(), Refusal>
+    requires room { tail.old.start ≡ 80 }
+    requires empty { made tail.old ≡ [] }
+    ensures { Grows tail.old (call_text (Call.Quote quote)) 80 result tail.new }
 {
-    let mut tail = of_last(quote.size)?;
-    quote.price.put(&mut tail, b'\t')?;
-    quote.side.put(&mut tail, b'\t')?;
-    quote.series.put(&mut tail, b'\t')?;
-    quote.maker.put(&mut tail, b'\t')?;
+    quote.size.put(tail, b'\n')?;
+    quote.price.put(tail, b'\t')?;
+    quote.side.put(tail, b'\t')?;
+    quote.series.put(tail, b'\t')?;
+    quote.maker.put(tail, b'\t')?;
     tail.put_letter(b'Q', b'\t');
-    Ok(tail)
+    Ok(())
 }
 
-fn of_enable(maker: u32, class: u32) -> Result<Tail, Refusal>
-    ensures { Makes (call_text (Call.Enable maker class)) 80 result }
+fn put_enable(maker: u32, class: u32, tail: &mut Tail) -> Result<(), Refusal>
+    requires room { tail.old.start ≡ 80 }
+    requires empty { made tail.old ≡ [] }
+    ensures { Grows tail.old (call_text (Call.Enable maker class)) 80 result tail.new }
 {
-    let mut tail = of_last(class)?;
-    maker.put(&mut tail, b'\t')?;
+    class.put(tail, b'\n')?;
+    maker.put(tail, b'\t')?;
     tail.put_letter(b'E', b'\t');
-    Ok(tail)
+    Ok(())
 }
 
-fn of_withdraw(number: u32) -> Result<Tail, Refusal>
-    ensures { Makes (call_text (Call.Withdraw number)) 80 result }
+fn put_withdraw(number: u32, tail: &mut Tail) -> Result<(), Refusal>
+    requires room { tail.old.start ≡ 80 }
+    requires empty { made tail.old ≡ [] }
+    ensures { Grows tail.old (call_text (Call.Withdraw number)) 80 result tail.new }
 {
-    let mut tail = of_last(number)?;
+    number.put(tail, b'\n')?;
     tail.put_letter(b'X', b'\t');
-    Ok(tail)
+    Ok(())
 }
 
-fn of_clock(ms: u32) -> Result<Tail, Refusal>
-    ensures { Makes (call_text (Call.Clock ms)) 80 result }
+fn put_clock(ms: u32, tail: &mut Tail) -> Result<(), Refusal>
+    requires room { tail.old.start ≡ 80 }
+    requires empty { made tail.old ≡ [] }
+    ensures { Grows tail.old (call_text (Call.Clock ms)) 80 result tail.new }
 {
-    let mut tail = of_last(ms)?;
+    ms.put(tail, b'\n')?;
     tail.put_letter(b'T', b'\t');
-    Ok(tail)
+    Ok(())
 }
 
-fn of_width(update: Update) -> Result<Tail, Refusal>
-    ensures { Makes (call_text (Call.Width update)) 80 result }
+fn put_width(update: Update, tail: &mut Tail) -> Result<(), Refusal>
+    requires room { tail.old.start ≡ 80 }
+    requires empty { made tail.old ≡ [] }
+    ensures { Grows tail.old (call_text (Call.Width update)) 80 result tail.new }
 {
-    let mut tail = of_last(update.second)?;
-    update.first.put(&mut tail, b'\t')?;
-    update.width.put(&mut tail, b'\t')?;
-    update.series.put(&mut tail, b'\t')?;
+    update.second.put(tail, b'\n')?;
+    update.first.put(tail, b'\t')?;
+    update.width.put(tail, b'\t')?;
+    update.series.put(tail, b'\t')?;
     tail.put_letter(b'W', b'\t');
-    Ok(tail)
+    Ok(())
 }
 
-fn of_call(call: Call) -> Result<Tail, Refusal>
-    ensures { Makes (call_text call) 80 result }
+fn put_call(call: Call, tail: &mut Tail) -> Result<(), Refusal>
+    requires room { tail.old.start ≡ 80 }
+    requires empty { made tail.old ≡ [] }
+    ensures { Grows tail.old (call_text call) 80 result tail.new }
 {
     match call {
-        Call::Nbbo { series, nbbo } => of_nbbo(series, nbbo),
-        Call::Event { class, event } => of_tape(class, event),
-        Call::Order(order) => of_order(order),
-        Call::Quote(quote) => of_quote(quote),
-        Call::Enable { maker, class } => of_enable(maker, class),
-        Call::Withdraw { number } => of_withdraw(number),
-        Call::Clock { ms } => of_clock(ms),
-        Call::Width(update) => of_width(update),
+        Call::Nbbo { series, nbbo } => put_nbbo(series, nbbo, tail),
+        Call::Event { class, event } => put_tape(class, event, tail),
+        Call::Order(order) => put_order(order, tail),
+        Call::Quote(quote) => put_quote(quote, tail),
+        Call::Enable { maker, class } => put_enable(maker, class, tail),
+        Call::Withdraw { number } => put_withdraw(number, tail),
+        Call::Clock { ms } => put_clock(ms, tail),
+        Call::Width(update) => put_width(update, tail),
     }
 }
 
-fn of_line(line: Line) -> Result<Tail, Refusal>
-    ensures { Makes (written line) 80 result }
+fn put_line(line: Line, tail: &mut Tail) -> Result<(), Refusal>
+    requires room { tail.old.start ≡ 80 }
+    requires empty { made tail.old ≡ [] }
+    ensures { Grows tail.old (written line) 80 result tail.new }
 {
     match line {
-        Line::Series(terms) => of_series(terms),
-        Line::Call(call) => of_call(call),
+        Line::Series(terms) => put_series(terms, tail),
+        Line::Call(call) => put_call(call, tail),
     }
 }
 
@@ -159,6 +184,7 @@ pub fn write_line(line: Line, out: &mut [u8]) -> Result<usize, Refusal>
     ensures bytes { out.new ≡ over (written line) out.old }
     ensures cases { MatchResult result (λ size. (written line ≡ Some (take size out.new)) × (size ≤ 80)) (λ e. Refused (written line) out.old e) }
 {
-    let tail = of_line(line)?;
+    let mut tail = Tail::empty();
+    put_line(line, &mut tail)?;
     tail.place(out)
 }
