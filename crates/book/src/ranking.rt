@@ -1,6 +1,6 @@
 // How rows are ranked, and which may rest together.
-ghost use Rattle.std.specs.Prelude.{◌≡◌};
-ghost use Rattle.book.specs.Rows.{agrees, better, meets, precedes, same_maker, stands_at};
+ghost use Rattle.std.specs.Prelude.{◌≡◌, not};
+ghost use Rattle.book.specs.Rows.{agrees, better, meets, not_before, precedes, same_maker, stands_at};
 
 use crate::row::{Row, Standing};
 use values::side::{Price, Side};
@@ -22,6 +22,14 @@ impl Row {
     {
         !self.side.no_more_aggressive(self.display, other.display)
             || self.display == other.display && self.number < other.number
+    }
+
+    // Whether it stands before all rows on the side of the series. Field by field: with a comparison of tuples here an immediate order that
+    // meets nobody takes half as much time again.
+    pub(crate) fn stands_before(&self, series: u8, side: Side) -> bool
+        ensures { result ≡ not (not_before series side self.now) }
+    {
+        self.series < series || self.series == series && self.side < side
     }
 
     // Whether it stands on the side of the series.

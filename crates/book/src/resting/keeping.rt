@@ -111,7 +111,7 @@ impl Rows {
         ensures { result ≡ best_of series side (ranked self.now) }
     {
         let rows = self.rows();
-        let at = rows.partition_point(|row| (row.series, row.side) < (series, side));
+        let at = rows.partition_point(|row| row.stands_before(series, side));
         rows.get(at)
             .copied()
             .filter(|row| row.stands_at(series, side))
